@@ -1,5 +1,5 @@
 -- The enclosure of the adjoint form holds the weighted current of every varied solution, since its network has an adjoint solution.
-use Rattle.std.proofs.Common.{◌≡◌, ℕ, ◌*◌, ◌<◌, true, ℤ, pos, ◌+ℤ◌, ◌*ℤ◌, arith}
+use Rattle.std.proofs.Common.{◌≡◌, ℕ, ◌*◌, ◌<◌, true, ℤ, pos, ◌*ℤ◌, arith}
 use Rattle.std.proofs.lemmas.List.Elements.{recursion_from_All}
 use Rattle.std.specs.Prelude.{Bool, List}
 use Rattle.gic_fixed.specs.Encloses.{Encloses}

@@ -1,15 +1,14 @@
 -- How great the currents of varied solutions can be: a lift of one voltage at all grounds is flat, so that potentials lie within 21 times the bound of the reference's.
-use Rattle.std.proofs.Common.{◌≡◌, ℕ, ◌+◌, ◌-◌, ◌*◌, ◌^◌, ◌<◌, ◌≤◌, Bool, true, false, cond, ◌==◌, List, [], ◌∷◌, ℤ, pos, ◌+ℤ◌, ◌-ℤ◌, ◌*ℤ◌, neg_ℤ, ◌≤ℤ◌, unsigned_abs, arith, refl, ap, sym, subst, ◌∙◌, ◌⊎◌, ⊎_elim, eq-eqb, ne_eqb}
+use Rattle.std.proofs.Common.{◌≡◌, ℕ, ◌+◌, ◌-◌, ◌*◌, ◌^◌, ◌<◌, ◌≤◌, Bool, true, false, List, ℤ, pos, ◌+ℤ◌, ◌-ℤ◌, ◌*ℤ◌, neg_ℤ, ◌≤ℤ◌, unsigned_abs, arith, refl, ap, sym, ◌∙◌, ◌⊎◌, ⊎_elim}
 use lib.IntN.{*ℤ_comm, *ℤ-zero}
 use Rattle.std.proofs.Math.IntN.{*ℤ-one}
-use Rattle.std.specs.List.{All, AllByRecursion, enumerate_from}
+use Rattle.std.specs.List.{All, AllByRecursion}
 use Rattle.std.proofs.lemmas.Int.{ints}
 use Rattle.std.proofs.lemmas.List.Elements.{recursion_from_All, All-from_recursion}
 use Rattle.std.proofs.Math.Nat.{mul-le-mul_left, mul-le-mul_right}
 use Rattle.gic_base.specs.declared.limits.TheConstants.{MOST_WALK}
 use Rattle.gic_base.proofs.Each.{weaker}
 use Rattle.gic_fixed.proofs.Integers.{linear, *ℤ-≤ℤ, ≤ℤ-from_*ℤ, *ℤ-neg_ℤ}
-use Rattle.gic_fixed.proofs.Sums.{sum_of-same}
 use Rattle.gic_exists.specs.Exists.{HasSolution}
 use Rattle.gic_exists.proofs.InNetworks.{exists_in}
 use Rattle.gic_model.specs.declared.parts.End.{End}
@@ -17,26 +16,25 @@ use Rattle.gic_model.specs.declared.parts.End.TheVariants.{Node, Earth}
 use Rattle.gic_model.specs.declared.parts.Element.{Element}
 use Rattle.gic_model.specs.declared.parts.Item.{Item}
 use Rattle.gic_model.specs.Bound.{IsEarthedWithin}
-use Rattle.gic_model.specs.Earthing.{is_earth, AreEarthed}
+use Rattle.gic_model.specs.Earthing.{AreEarthed}
 use Rattle.gic_model.specs.Limits.{IsWithinLimits, IsElementWithin, AreVolts, most_volts}
 use Rattle.gic_model.specs.Network.{Network, ends_at}
 use Rattle.gic_model.specs.Solution.{Solution, IsOhm}
-use Rattle.gic_model.specs.Standing.{standing_elements, is_live, IsLive, elements_at, value_at, leaving}
+use Rattle.gic_model.specs.Standing.{standing_elements, is_live, IsLive, value_at}
 use Rattle.gic_model.specs.Sums.{Placed}
 use Rattle.gic_model.proofs.Ends.{standing_within, ends_live, from_own, end_own, IsLiveEnd}
-use Rattle.gic_model.proofs.Members.{kept, both}
+use Rattle.gic_model.proofs.Members.{both}
 use Rattle.gic_model.proofs.Pushes.{potentials_bounded}
 use Rattle.gic_varied.specs.Grounds.{is_ground, HaveNoGroundVolts}
-use Rattle.gic_varied.specs.Lifts.{IsLift, AreLifts, with_least}
-use Rattle.gic_varied.specs.Ranges.{Range, Ranges, ground_range, ranges_of, AreInRanges, IsInRange}
+use Rattle.gic_varied.specs.Lifts.{AreLifts, with_least}
+use Rattle.gic_varied.specs.Ranges.{Ranges, ground_range, ranges_of, AreInRanges}
 use Rattle.gic_varied.specs.Varied.{IsVaried}
 use Rattle.gic_varied.specs.Bounds.{AreModest}
 use Rattle.gic_varied.specs.Corners.{all_least}
 use Rattle.gic_varied.proofs.FlatLifts.{even, flat, solves_flat, flat_lifts}
 use Rattle.gic_varied.proofs.Lifted.{raised, lowered}
 use Rattle.gic_varied.proofs.OtherGrounds.{earthed_with}
-use Rattle.gic_varied.proofs.Regrounded.{placed_with, SolvesWith, solves_with, standing_with, live_with}
-use Rattle.gic_varied.proofs.Tellegen.{sum_of_zeros}
+use Rattle.gic_varied.proofs.Regrounded.{SolvesWith, solves_with, standing_with, live_with}
 
 -- over plain numbers: from what a lift bounds of a varied potential
 upper : (dr dv b : ℕ) (q p : ℤ) → 0 < dr → p ≤ℤ pos (b * dr) → (pos (dr * 1) *ℤ q) ≤ℤ (pos dv *ℤ (pos 1 *ℤ p +ℤ pos dr *ℤ pos (20 * b))) → q ≤ℤ pos (21 * b * dv)

@@ -1,5 +1,5 @@
 -- One voltage at all grounds lifts all nodes alike: a flat lift, over potentials that bounds hold at the grounds of a corner.
-use Rattle.std.proofs.Common.{◌≡◌, ℕ, ◌+◌, ◌-◌, ◌*◌, ◌<◌, ◌≤◌, Bool, true, false, cond, ◌==◌, List, [], ◌∷◌, ℤ, pos, ◌+ℤ◌, ◌-ℤ◌, ◌*ℤ◌, neg_ℤ, ◌≤ℤ◌, arith, refl, ap, sym, subst, ◌∙◌, eq-eqb, ne_eqb}
+use Rattle.std.proofs.Common.{◌≡◌, ℕ, ◌+◌, ◌-◌, ◌*◌, ◌≤◌, Bool, true, false, cond, ◌==◌, List, [], ◌∷◌, ℤ, pos, ◌+ℤ◌, ◌-ℤ◌, ◌*ℤ◌, neg_ℤ, ◌≤ℤ◌, arith, refl, ap, sym, subst, ◌∙◌, eq-eqb, ne_eqb}
 use lib.IntN.{*ℤ_comm, *ℤ-zero}
 use Rattle.std.proofs.Math.IntN.{*ℤ-one}
 use Rattle.std.specs.List.{AllByRecursion, enumerate_from}

@@ -11,13 +11,12 @@ use Rattle.gic_exists.proofs.Existence.{solution_where_undriven}
 use Rattle.gic_exists.proofs.Places.{found_at, IsApart, apart}
 use Rattle.gic_fixed.proofs.Integers.{linear, *ℤ_assoc}
 use Rattle.gic_fixed.proofs.Divisions.{positive_product}
-use Rattle.gic_model.specs.declared.parts.End.{End}
 use Rattle.gic_model.specs.declared.parts.Item.{Item}
-use Rattle.gic_model.specs.Earthing.{AreEarthed, is_earth}
+use Rattle.gic_model.specs.Earthing.{AreEarthed}
 use Rattle.gic_model.specs.Limits.{IsWithinLimits, IsElementWithin}
 use Rattle.gic_model.specs.Network.{Network, ends_at}
 use Rattle.gic_model.specs.Solution.{Solution, IsOhm, IsSolution}
-use Rattle.gic_model.specs.Standing.{standing_elements, is_live, IsLive, is_standing, elements_at, value_at, leaving}
+use Rattle.gic_model.specs.Standing.{standing_elements, IsLive, is_standing, elements_at, value_at, leaving}
 use Rattle.gic_model.specs.Sums.{Placed, sum_of}
 use Rattle.gic_model.proofs.Ends.{standing_within, live_within}
 use Rattle.gic_model.proofs.Members.{both}
@@ -29,7 +28,7 @@ use Rattle.gic_varied.specs.Ranges.{Ranges, AreInRanges, IsInRange}
 use Rattle.gic_varied.specs.Varied.{IsVaried, IsGroundWithin, IsFractionOf, IsOhmOf}
 use Rattle.gic_varied.proofs.FlatLifts.{flat, solves_flat_by}
 use Rattle.gic_varied.proofs.GreatestPotentials.{at_most, at_least}
-use Rattle.gic_varied.proofs.Regrounded.{placed_with, filter-map, list_any-map, sum_of-map, all_unmapped, SolvesWith}
+use Rattle.gic_varied.proofs.Regrounded.{filter-map, list_any-map, sum_of-map, all_unmapped}
 use Rattle.gic_varied.proofs.Resistances.{Fraction, IsFraction, fraction_of, is_fraction, within_fraction}
 use Rattle.gic_varied.proofs.Within.{value_earth}
 
@@ -39,10 +38,13 @@ all_mapped f P (x ∷ xs) h = (h.0, all_mapped f P xs h.1)
 
 -- the element with such a fraction, where it is a ground
 abbrev pub fractioned : (Placed → Fraction) → Placed → Placed
-fractioned f p = (p.0, record p.1 {
-  times = cond (is_ground p.1) (p.1.times * (f p).denominator) p.1.times;
-  micro_ohm = cond (is_ground p.1) (f p).numerator p.1.micro_ohm;
-})
+fractioned f p = (
+  p.0,
+  record p.1 {
+    times = cond (is_ground p.1) (p.1.times * (f p).denominator) p.1.times;
+    micro_ohm = cond (is_ground p.1) (f p).numerator p.1.micro_ohm;
+  },
+)
 
 -- a solution of the network with these fractions, seen over the elements of the network itself
 pub record SolvesBy (standing : List Placed) (f : Placed → Fraction) (volts : ℕ → ℤ) (s : Solution) : Type 0 where

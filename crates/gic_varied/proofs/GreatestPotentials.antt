@@ -1,8 +1,7 @@
 -- A network whose grounds raise their nodes the most needs no lift, so its potentials are the greatest; and where signs are open at the grounds, a flat lift is enough.
-use Rattle.std.proofs.Common.{◌≡◌, ℕ, ◌-◌, ◌*◌, ◌<◌, ◌≤◌, Bool, true, false, cond, List, inl, inr, ℤ, pos, ◌+ℤ◌, ◌-ℤ◌, ◌*ℤ◌, neg_ℤ, ◌≤ℤ◌, arith, ap, sym, subst, ◌∙◌}
+use Rattle.std.proofs.Common.{◌≡◌, ℕ, ◌-◌, ◌*◌, ◌≤◌, Bool, true, false, cond, List, inl, inr, ℤ, pos, ◌+ℤ◌, ◌-ℤ◌, ◌*ℤ◌, neg_ℤ, ◌≤ℤ◌, arith, ap, sym, subst, ◌∙◌}
 use lib.IntN.{*ℤ_comm, *ℤ-zero}
 use Rattle.std.proofs.Math.IntN.{*ℤ-one}
-use Rattle.std.specs.List.{AllByRecursion}
 use Rattle.std.proofs.lemmas.List.Elements.{recursion_from_All, All-from_recursion}
 use Rattle.gic_base.proofs.Each.{weaker}
 use Rattle.gic_exists.specs.Exists.{HasSolution}
@@ -16,7 +15,7 @@ use Rattle.gic_model.specs.declared.parts.Item.{Item}
 use Rattle.gic_model.specs.Earthing.{AreEarthed}
 use Rattle.gic_model.specs.Limits.{IsWithinLimits}
 use Rattle.gic_model.specs.Network.{Network, ends_at}
-use Rattle.gic_model.specs.Solution.{Solution, IsSolution}
+use Rattle.gic_model.specs.Solution.{Solution}
 use Rattle.gic_model.specs.Standing.{standing_elements, is_live, IsLive}
 use Rattle.gic_model.specs.Sums.{Placed}
 use Rattle.gic_model.proofs.Ends.{standing_within, ends_live, from_own}
@@ -25,7 +24,7 @@ use Rattle.gic_varied.specs.Bounds.{AreModest}
 use Rattle.gic_varied.specs.Certified.{HoldPotentials}
 use Rattle.gic_varied.specs.Corners.{Corner, corner_ohm, with_corner, raising_height, lowering_height}
 use Rattle.gic_varied.specs.Grounds.{is_ground, HaveNoGroundVolts}
-use Rattle.gic_varied.specs.Lifts.{IsLift, AreLifts, IsRaisedAtMost}
+use Rattle.gic_varied.specs.Lifts.{IsLift, AreLifts}
 use Rattle.gic_varied.specs.PotentialRanges.{IsRaising, AreRaising, AreLowering, IsAtMostAt, AreHeightsAtMost}
 use Rattle.gic_varied.specs.Ranges.{Range, Ranges, IsInRange, AreInRanges}
 use Rattle.gic_varied.specs.Varied.{IsVaried}

@@ -32,6 +32,7 @@ pub mod Fractions
 pub mod Shared
 pub mod AdjointEnclosed
 pub mod RaisingParts
+pub mod WorkedPotentials
 pub mod LiftReach
 pub mod PotentialReach
 pub mod SumsAndSizes

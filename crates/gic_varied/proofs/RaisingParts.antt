@@ -1,5 +1,5 @@
 -- The network of a varied solution, with each ground's fraction brought into a part of its range, carries a weighted current that is no less, where the part is one for the greatest.
-use Rattle.std.proofs.Common.{◌≡◌, ℕ, ◌*◌, ◌<◌, ◌≤◌, Bool, true, false, List, [], ◌∷◌, ◌⊎◌, inl, inr, ℤ, pos, ◌+ℤ◌, ◌-ℤ◌, ◌*ℤ◌, neg_ℤ, ◌≤ℤ◌, arith, ap, sym, ◌∙◌}
+use Rattle.std.proofs.Common.{◌≡◌, ℕ, ◌*◌, ◌<◌, ◌≤◌, Bool, true, List, [], ◌∷◌, ◌⊎◌, inl, inr, ℤ, pos, ◌+ℤ◌, ◌-ℤ◌, ◌*ℤ◌, neg_ℤ, ◌≤ℤ◌, arith, ap, sym, ◌∙◌}
 use lib.IntN.{*ℤ_comm, *ℤ-zero}
 use borrow.Author.Differences.{same_in}
 use Rattle.std.specs.Prelude.{min, max}
@@ -9,7 +9,7 @@ use Rattle.std.proofs.lemmas.Bool.{cases_lt}
 use Rattle.std.proofs.Math.Nat.{mul-le-mul_right, lt_of_mul-lt-mul_right}
 use Rattle.gic_base.proofs.Each.{weaker}
 use Rattle.gic_fixed.proofs.Divisions.{positive_product}
-use Rattle.gic_fixed.proofs.Integers.{linear, up-*ℤ, down-*ℤ, *ℤ-≤ℤ, ≤ℤ-from_*ℤ, *ℤ-+ℤ, *ℤ--ℤ, *ℤ-neg_ℤ, *ℤ_assoc, *ℤ_left_comm, nothing_from}
+use Rattle.gic_fixed.proofs.Integers.{linear, up-*ℤ, down-*ℤ, *ℤ-≤ℤ, ≤ℤ-from_*ℤ, *ℤ-+ℤ, *ℤ--ℤ, *ℤ-neg_ℤ, *ℤ_left_comm, nothing_from}
 use Rattle.gic_fixed.proofs.Sums.{sum_of-≤ℤ}
 use Rattle.gic_model.specs.declared.parts.Item.{Item}
 use Rattle.gic_model.specs.Earthing.{AreEarthed}
@@ -17,11 +17,11 @@ use Rattle.gic_model.specs.Limits.{IsWithinLimits, IsElementWithin}
 use Rattle.gic_model.specs.Network.{Network}
 use Rattle.gic_model.specs.Solution.{Solution}
 use Rattle.gic_model.specs.Standing.{standing_elements}
-use Rattle.gic_model.specs.Sums.{Placed, sum_of}
-use Rattle.gic_model.proofs.Ends.{standing_within, some_times}
+use Rattle.gic_model.specs.Sums.{Placed}
+use Rattle.gic_model.proofs.Ends.{standing_within}
 use Rattle.gic_model.proofs.Members.{kept, both}
 use Rattle.gic_varied.specs.Grounds.{is_ground, grounds_among, HaveNoGroundVolts}
-use Rattle.gic_varied.specs.OneNetwork.{ground_drive_of, HasVariedSolution}
+use Rattle.gic_varied.specs.OneNetwork.{ground_drive_of}
 use Rattle.gic_varied.specs.Parts.{NeverBelow0, NeverAbove0, IsPartOf, AreRaisingParts, AreLoweringParts, HasAtLeast, HasAtMost}
 use Rattle.gic_varied.specs.Ranges.{Range, Ranges, AreInRanges, IsInRange}
 use Rattle.gic_varied.specs.Reciprocal.{current_by_weights, stray_power, all_stray_power}
@@ -29,8 +29,8 @@ use Rattle.gic_varied.specs.Varied.{IsVaried, IsFractionOf, IsOhmOf}
 use Rattle.gic_varied.proofs.Fractions.{SolvesBy, AreFractions, varied_by, HasFractionSolution, solved_by, fractions, inside_by, of_one_network}
 use Rattle.gic_varied.proofs.GroundCurrents.{factor_order}
 use Rattle.gic_varied.proofs.Reciprocity.{reciprocal_both, varied_keeps}
-use Rattle.gic_varied.proofs.Resistances.{Fraction, IsFraction}
-use Rattle.gic_varied.proofs.Shared.{shared_nothing, reciprocal_shared}
+use Rattle.gic_varied.proofs.Resistances.{Fraction}
+use Rattle.gic_varied.proofs.Shared.{reciprocal_shared}
 use Rattle.gic_varied.proofs.Tellegen.{sum_of_zeros}
 
 -- a fraction, brought into a range: over the same denominator, no less than the least and no more than the greatest

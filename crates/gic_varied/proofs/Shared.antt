@@ -1,11 +1,11 @@
 -- Two solutions of one network have no stray power, and what that says of their weighted currents.
-use Rattle.std.proofs.Common.{◌≡◌, ℕ, ◌*◌, ◌<◌, Bool, true, false, List, ℤ, pos, ◌+ℤ◌, ◌-ℤ◌, ◌*ℤ◌, arith, ap, sym, ◌∙◌}
+use Rattle.std.proofs.Common.{◌≡◌, ℕ, ◌*◌, ◌<◌, true, List, ℤ, pos, ◌+ℤ◌, ◌-ℤ◌, ◌*ℤ◌, arith, ap, sym, ◌∙◌}
 use lib.IntN.{*ℤ_comm}
 use Rattle.std.specs.List.{AllByRecursion}
 use Rattle.std.proofs.lemmas.List.Elements.{recursion_from_All}
 use Rattle.gic_model.specs.Limits.{IsElementWithin}
 use Rattle.gic_model.specs.Solution.{Solution}
-use Rattle.gic_model.specs.Sums.{Placed, sum_of}
+use Rattle.gic_model.specs.Sums.{Placed}
 use Rattle.gic_fixed.proofs.Divisions.{positive_product}
 use Rattle.gic_fixed.proofs.Integers.{linear, *ℤ--ℤ, *ℤ-+ℤ, *ℤ_assoc, *ℤ_left_comm}
 use Rattle.gic_fixed.proofs.Sums.{sum_of-same}

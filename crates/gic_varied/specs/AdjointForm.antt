@@ -1,6 +1,5 @@
 -- Reciprocity with the two networks in each other's place: a varied weighted current from the reference's own potentials and the varied network's adjoint potentials.
-use Rattle.std.specs.Prelude.{ℕ, ◌≡◌, ◌*◌, ◌<◌, Bool, List, IsTrue, ℤ, pos, ◌-ℤ◌, ◌*ℤ◌}
-use Rattle.std.specs.List.{All}
+use Rattle.std.specs.Prelude.{ℕ, ◌≡◌, ◌*◌, ◌<◌, Bool, List, ℤ, pos, ◌-ℤ◌, ◌*ℤ◌}
 use Rattle.gic_fixed.specs.Encloses.{Encloses}
 use Rattle.gic_fixed.specs.Ends.{Ends}
 use Rattle.gic_model.specs.declared.parts.Element.{Element}
@@ -12,7 +11,7 @@ use Rattle.gic_model.specs.Solution.{Solution, IsSolution}
 use Rattle.gic_model.specs.Standing.{standing_elements}
 use Rattle.gic_model.specs.Sums.{Placed}
 use Rattle.gic_varied.specs.Enclosure.{enclosure_of, HoldProducts}
-use Rattle.gic_varied.specs.Grounds.{is_ground, HaveNoGroundVolts, with_grounds}
+use Rattle.gic_varied.specs.Grounds.{HaveNoGroundVolts, with_grounds}
 use Rattle.gic_varied.specs.OneNetwork.{AreOfOneNetwork}
 use Rattle.gic_varied.specs.Ranges.{Ranges, AreInRanges}
 use Rattle.gic_varied.specs.Reciprocal.{current_by_weights, all_stray_power}

@@ -20,3 +20,4 @@ pub mod Near
 pub mod Reach
 pub mod Sizes
 pub mod WorkedGrounds
+pub mod WorkedRanges

@@ -1,4 +1,5 @@
 //! Theorems over the definitions, each the contract of a function that does nothing.
+ghost use Rattle.std.specs.Prelude.{◌≡◌, pos, neg_ℤ};
 ghost use Rattle.gic_model.specs.WorkedLoop.{loop_standing};
 ghost use Rattle.gic_varied.specs.Varied.{IsVaried, WithinIsSomeResistance};
 ghost use Rattle.gic_varied.specs.VariedLaws.{RangesHoldTolerances, OwnGroundsAreInRanges, SolutionsAreVaried, OwnSolutionsAreVaried};
@@ -22,6 +23,12 @@ ghost use Rattle.gic_varied.specs.Parts.{RaisingPartsHaveTheGreatest, LoweringPa
 ghost use Rattle.gic_varied.specs.Strays.{StrayPowersAreBounded};
 ghost use Rattle.gic_varied.specs.Reciprocal.{VariedCurrentsAreReciprocal, CurrentsAreReciprocal, VariedCurrentsAreOffByStrayPower};
 ghost use Rattle.gic_varied.specs.Reciprocal.{ListedWeightsCount};
+ghost use Rattle.gic_varied.specs.Corners.{corner_ohm};
+ghost use Rattle.gic_varied.specs.PotentialRanges.{AreRaising, AreLowering};
+ghost use Rattle.gic_varied.specs.OneNetwork.{AreOfOneNetwork};
+ghost use Rattle.gic_varied.specs.Reciprocal.{all_stray_power};
+ghost use Rattle.gic_varied.specs.Parts.{AreRaisingParts};
+ghost use Rattle.gic_varied.specs.WorkedRanges.{most_at_a, most_at_b, highest_solution, lowest_solution, IsLoopSolution, LoopPotentialsAreInRange, both_least};
 ghost use Rattle.gic_varied.specs.WorkedGrounds.{loop_ranges, line_of_800_volts, weak_solution, strong_solution, LoopCurrentsAreBounded};
 
 /// A loop of two grounds worked by hand at 20 per cent: both corners are varied solutions, and the current of every
@@ -30,6 +37,19 @@ pub fn worked_grounds_law()
     ensures weak { IsVaried loop_standing loop_ranges line_of_800_volts weak_solution }
     ensures strong { IsVaried loop_standing loop_ranges line_of_800_volts strong_solution }
     ensures bounds { LoopCurrentsAreBounded }
+{}
+
+/// The ranges of that loop's potentials by hand: they are those of two corners. By the adjoint form 2000/9 amperes are 2000/7 less
+/// what the stray power says, and with both grounds turned to their least resistances 2000/7 amperes flow.
+pub fn worked_ranges_law()
+    ensures highest { IsLoopSolution most_at_b highest_solution }
+    ensures raising { AreRaising loop_standing loop_ranges (corner_ohm loop_ranges most_at_b) highest_solution.potential }
+    ensures lowest { IsLoopSolution most_at_a lowest_solution }
+    ensures lowering { AreLowering loop_standing loop_ranges (corner_ohm loop_ranges most_at_a) lowest_solution.potential }
+    ensures potentials { LoopPotentialsAreInRange }
+    ensures power { all_stray_power loop_standing weak_solution strong_solution ≡ neg_ℤ (pos 3200000000000000000000000) }
+    ensures parts { AreRaisingParts loop_standing loop_ranges both_least line_of_800_volts line_of_800_volts }
+    ensures turned { IsVaried loop_standing both_least line_of_800_volts strong_solution }
 {}
 
 /// The range of a resistance holds every resistance within the tolerance, whole or not, that a case can have; in a
