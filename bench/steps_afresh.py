@@ -5,8 +5,8 @@ prints a table.
     python3 bench/steps_afresh.py PROGRAM CASE ..
 
 PROGRAM is the built program, and each CASE a file with a line, as `generators/solver_cases.py` writes them. No contract tells the two
-apart, and a solve of a small network is too fast for a test's time limit to tell them; so this ratio is where it would be
-seen that a study solves each of its steps.
+apart, and a solve of a small network is too fast for a test's time limit to tell them; so only such a ratio shows a study that
+solves each of its steps. `trials/tests/test_steps.py` refuses one below 1.5 over twenty loops.
 
 The program solves the steps of an epoch that has at most twice as many steps as the case has zones. So the storm has
 another field at each step, and one switching for each few steps closes a line that is closed already: nothing that

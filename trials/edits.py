@@ -12,6 +12,7 @@ import time
 from collections.abc import Iterator, Sequence
 from contextlib import AbstractContextManager, contextmanager, nullcontext
 from dataclasses import dataclass, field
+from datetime import datetime, timezone
 from pathlib import Path
 
 from paths import HERE, TOP  # which finds the modules below
@@ -19,6 +20,7 @@ from paths import HERE, TOP  # which finds the modules below
 import machine
 from crates import Crate, Fault, below, read_crates, read_text
 from edit_kit import FAILED, PASSED
+from edit_state import Key, Refusal, key_of, oldest, read_state, record
 from kit import UNKNOWN_TOOLCHAIN
 from locks import locked
 from plan import chains, read_table, weigh
@@ -70,6 +72,8 @@ class Trial:
     edits: dict[str, list[Path]]
     proved: set[str]
     lanes: int
+    # The checkout that keeps what became of each edit.
+    top: Path
     counts: Counts = field(default_factory=Counts)
 
     def __post_init__(self) -> None:
@@ -101,8 +105,9 @@ class Trial:
                         self.running.remove((task, run))
                         self.end(task, run, ended)
         finally:
-            for _, run in self.running:
+            for task, run in self.running:
                 run.stop()
+                self.record(task, run)
 
     def can_begin(self, task: Task) -> bool:
         own = [task.name] if task.verb == "try" else []
@@ -132,6 +137,22 @@ class Trial:
                     self.counts.failed += len(self.edits[task.name])
                     say(f"{task.name}: its {len(self.edits[task.name])} edits aren't tried, since {missing[0]} isn't proved")
 
+    def told(self, run: Run) -> list[str]:
+        """The lines in which a run tells what became of an edit."""
+        lines = run.log.read_text(encoding="utf-8", errors="replace").splitlines()
+        return [it for it in lines if it.startswith((PASSED, FAILED))]
+
+    def record(self, task: Task, run: Run) -> None:
+        """Keeps what became of the edits of a crate, as far as they were tried."""
+        if task.verb != "try":
+            return
+        refused: list[Key] = []
+        others: list[Key] = []
+        for edit, line in zip(self.edits[task.name], self.told(run)):
+            (refused if line.startswith(PASSED) else others).append(key_of(edit))
+        there = [key_of(it) for name in self.crates for it in edits_of(self.clone, name, [ON_DEMAND, GATE])]
+        record(self.top, there, refused, others, Refusal(commit_of(self.clone), today()))
+
     def end(self, task: Task, run: Run, ended: Ended) -> None:
         if ended.status == UNKNOWN_TOOLCHAIN:
             raise Fault(run.last_lines()[-1])
@@ -149,8 +170,8 @@ class Trial:
         say("\n".join([f"{task.name} is not proved; the last lines of what was said:", *run.last_lines()]))
 
     def end_edits(self, task: Task, run: Run, ended: Ended) -> None:
-        lines = run.log.read_text(encoding="utf-8", errors="replace").splitlines()
-        told = [it for it in lines if it.startswith((PASSED, FAILED))]
+        told = self.told(run)
+        self.record(task, run)
         passed = sum(it.startswith(PASSED) for it in told)
         failed = len(self.edits[task.name]) - passed
         self.counts.passed += passed
@@ -183,6 +204,19 @@ def make_clone(top: Path, clone: Path) -> None:
     ran = subprocess.run(["git", "clone", "--quiet", str(top), str(clone)], stdin=subprocess.DEVNULL, capture_output=True, text=True)
     if ran.returncode != 0:
         raise Fault(f"{top} can't be cloned: {' '.join(ran.stderr.split())}")
+
+
+def commit_of(clone: Path) -> str:
+    """The commit that a clone has, in short."""
+    words = ["git", "-C", str(clone), "rev-parse", "--short=8", "HEAD"]
+    ran = subprocess.run(words, stdin=subprocess.DEVNULL, capture_output=True, text=True)
+    if ran.returncode != 0:
+        raise Fault(f"the commit of {clone} can't be read: {' '.join(ran.stderr.split())}")
+    return ran.stdout.strip()
+
+
+def today() -> str:
+    return datetime.now(timezone.utc).date().isoformat()
 
 
 def lanes_for(jobs: int | None) -> int:
@@ -234,15 +268,25 @@ def chosen(clone: Path, crates: dict[str, Crate], names: list[str], folders: lis
     return {name: edits for name, edits in found.items() if edits}
 
 
+def longest_untried(top: Path, edits: dict[str, list[Path]], count: int) -> dict[str, list[Path]]:
+    """Of these edits as many as are asked for, those that were tried longest ago, and before them those that never were."""
+    taken = {*oldest([it for some in edits.values() for it in some], read_state(top), count)}
+    found = {name: [it for it in some if it in taken] for name, some in edits.items()}
+    return {name: some for name, some in found.items() if some}
+
+
 def read_words(words: list[str]) -> argparse.Namespace:
     reader = argparse.ArgumentParser(prog="edits.sh", description="Tries the wrong edits that the gate leaves out.")
     reader.add_argument("--all", action="store_true", help="those of the gate too")
+    reader.add_argument("--oldest", type=int, metavar="N", help="no more than N, those that were tried longest ago")
     reader.add_argument("--jobs", type=int, metavar="N", help="how many crates are at work side by side")
     reader.add_argument("--top", type=Path, metavar="FOLDER", help="a checkout whose proved libraries are taken")
     reader.add_argument("names", nargs="*", metavar="NAME", help="the crates, or all")
     found = reader.parse_args(words)
     if found.jobs is not None and found.jobs < 1:
         reader.error("--jobs takes a number from 1 on")
+    if found.oldest is not None and found.oldest < 1:
+        reader.error("--oldest takes a number from 1 on")
     if found.top is not None and not (found.top / "crates.txt").is_file():
         reader.error(f"{found.top} has no crates.txt")
     return found
@@ -255,8 +299,10 @@ def trial_of(said: argparse.Namespace, top: Path, clone: Path) -> Trial:
     make_clone(top, clone)
     crates = read_crates(read_text(clone / "crates.txt"))
     edits = chosen(clone, crates, said.names, [ON_DEMAND, GATE] if said.all else [ON_DEMAND])
+    if said.oldest is not None:
+        edits = longest_untried(top, edits, said.oldest)
     proved = take_libraries(clone, said.top, rt) if said.top else set()
-    return Trial(clone, rt, crates, edits, proved, lanes_for(said.jobs))
+    return Trial(clone, rt, crates, edits, proved, lanes_for(said.jobs), top)
 
 
 def main(words: list[str], top: Path = TOP) -> int:

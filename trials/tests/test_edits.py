@@ -22,6 +22,8 @@ from typing import NamedTuple
 from unittest import mock
 
 import edits
+from crates import Fault
+from edit_state import FILE, Refusal, key_of, oldest, read_state, record, write_state
 from paths import HERE, TOP
 from referee.words import MODES
 from sources import read_sources
@@ -148,6 +150,10 @@ class Table(unittest.TestCase):
                 edit = (crate / FOLDERS[row.place] / f"{row.name}.edit").read_text(encoding="utf-8")
                 self.assertIsNone(why_not_applied(crate, edit))
 
+    def test_what_was_refused_is_an_edit(self) -> None:
+        names = {(it.crate, it.name) for it in self.rows}
+        self.assertEqual([it for it in read_state(TOP) if it not in names], [])
+
     def test_gate_has_few(self) -> None:
         self.assertLessEqual(len(self.gate), MOST_IN_GATE)
 
@@ -270,6 +276,40 @@ sys.exit(edits.main([], Path(sys.argv[1])))
 '''
 
 
+class State(unittest.TestCase):
+    def setUp(self) -> None:
+        folder = tempfile.TemporaryDirectory()
+        self.addCleanup(folder.cleanup)
+        self.top = Path(folder.name)
+
+    def test_without_a_file_nothing_was_tried(self) -> None:
+        self.assertEqual(read_state(self.top), {})
+
+    def test_what_is_written_is_read(self) -> None:
+        state = {("b", "x"): Refusal("1", "2026-12-02"), ("a", "y"): Refusal("2", "2026-12-01")}
+        write_state(self.top, state)
+        self.assertEqual(read_state(self.top), state)
+        self.assertEqual((self.top / FILE).read_text(), "crate,edit,commit,day\na,y,2,2026-12-01\nb,x,1,2026-12-02\n")
+
+    def test_another_table_is_refused(self) -> None:
+        for text in ("", "crate,edit\n", "crate,edit,commit,day\na,b,c\n"):
+            with self.subTest(text):
+                (self.top / FILE).parent.mkdir(exist_ok=True)
+                (self.top / FILE).write_text(text)
+                with self.assertRaises(Fault):
+                    read_state(self.top)
+
+    def test_edits_that_are_gone_are_forgotten(self) -> None:
+        write_state(self.top, {("a", "gone"): Refusal("1", "2026-12-01"), ("a", "kept"): Refusal("1", "2026-12-01")})
+        record(self.top, [("a", "kept"), ("a", "new")], [("a", "new")], [], Refusal("2", "2026-12-02"))
+        self.assertEqual([*read_state(self.top)], [("a", "kept"), ("a", "new")])
+
+    def test_those_never_tried_are_the_oldest(self) -> None:
+        paths = [Path(f"crates/a/wrong/{it}.edit") for it in ("late", "never", "early", "nor")]
+        state = {("a", "late"): Refusal("1", "2026-12-02"), ("a", "early"): Refusal("1", "2026-11-30")}
+        self.assertEqual([key_of(it)[1] for it in oldest(paths, state, 3)], ["never", "nor", "early"])
+
+
 class Ended(NamedTuple):
     status: int
     out: str
@@ -358,6 +398,38 @@ class Trials(unittest.TestCase):
         ended = self.tried()
         self.assertEqual((ended.status, self.last(ended)), (1, "2 passed, 1 failed"))
         self.assertIn("program: its 1 edits aren't tried, since high isn't proved", ended.out)
+
+    def state(self) -> list[tuple[str, str]]:
+        return [*read_state(self.top)]
+
+    def test_what_was_refused_is_kept(self) -> None:
+        self.write("crates/low/wrong/two.edit", "still proved")
+        self.tried()
+        self.assertEqual(self.state(), [("low", "one"), ("program", "four")])
+        found = read_state(self.top)["low", "one"]
+        self.assertRegex(found.commit, "^[0-9a-f]{8}$")
+        self.assertEqual(found.day, edits.today())
+
+    def test_what_is_no_longer_refused_is_forgotten(self) -> None:
+        self.tried("low")
+        self.write("crates/low/wrong/two.edit", "still proved")
+        self.tried("low")
+        self.assertEqual(self.state(), [("low", "one")])
+
+    def test_what_was_told_before_a_trial_ended_early_is_kept(self) -> None:
+        self.write("crates/low/wrong/two.edit", "STOPS")
+        self.tried("low")
+        self.assertEqual(self.state(), [("low", "one")])
+
+    def test_the_oldest_are_tried(self) -> None:
+        ended = self.tried("--oldest", "1")
+        self.assertEqual((self.last(ended), self.state()), ("1 passed, 0 failed", [("low", "one")]))
+        ended = self.tried("--oldest", "2")
+        self.assertEqual((self.last(ended), self.state()), ("2 passed, 0 failed", [("low", "one"), ("low", "two"), ("program", "four")]))
+        write_state(self.top, read_state(self.top) | {("low", "two"): Refusal("a", "2026-01-01")})
+        ended = self.tried("--oldest", "1")
+        self.assertIn("must-fail low/two.edit: refused", ended.out)
+        self.assertEqual(read_state(self.top)["low", "two"].day, edits.today())
 
     def built(self) -> Path:
         """Another checkout of the same sources."""

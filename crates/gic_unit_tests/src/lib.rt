@@ -27,4 +27,6 @@ mod peaks;
 #[cfg(test)]
 mod program;
 #[cfg(test)]
+mod quotients;
+#[cfg(test)]
 mod watched;
