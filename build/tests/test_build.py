@@ -289,7 +289,7 @@ class Builds(unittest.TestCase):
         status, _, said = self.at.prove()
         self.assertEqual(status, 1)
         out = self.at.top / "crates/low/out"
-        self.assertIn(f"gicstudy: the program has to be built, and {out} can't be written: ", said)
+        self.assertIn(f"gicstudy: the program must be built, but {out} can't be written: ", said)
 
     def test_a_disk_without_room_fails_the_build(self) -> None:
         full = "import errno, os, snapshot\ndef fill(*_): raise OSError(errno.ENOSPC, os.strerror(errno.ENOSPC))\n"
