@@ -133,7 +133,7 @@ class Builder:
         words = [sys.executable, "-B", str(PROVER), self.rt, crate.name, str(start.jobs)]
         self.work.append(Work(start, crate, Run(words, self.snapshot.at, out_of(self.top, crate.name) / LOG)))
         if crate.name == PROGRAM:
-            self.teller.say(f"now the program itself is proved and linked, {self.teller.minutes()}")
+            self.teller.say(f"proving and linking the program itself, {self.teller.minutes()}")
 
     def end(self, work: Work, ended: Ended) -> None:
         name = work.crate.name
@@ -149,25 +149,25 @@ class Builder:
             raise KeyboardInterrupt
         if was_killed(ended.status) and name not in self.killed:
             self.killed.append(name)
-            self.teller.say(f"the proof of {name} was killed, most likely for memory: once more, later and alone")
+            self.teller.say(f"the proof of {name} was killed, probably for lack of memory; it is repeated later, alone")
             return
         self.failed = self.failed or work
         self.teller.say(f"{name} {why}; the last lines of {work.run.log}:")
         for line in work.run.last_lines():
             self.teller.say(f"| {line}")
         if self.work:
-            self.teller.say(f"what is at work is proved first ({', '.join(self.at_work())}); Ctrl-C ends it")
+            self.teller.say(f"proofs at work are finished first ({', '.join(self.at_work())}); Ctrl-C stops them")
 
     def fault_of(self, work: Work, ended: Ended) -> str | None:
         """Why the crate doesn't count as proved, or None where it does: its library is there, or its program runs."""
         if ended.status == UNKNOWN_TOOLCHAIN:
             return f"can't be built with {self.toolchain}"
         if ended.status != 0:
-            return "isn't proved"
+            return "was not proved"
         if work.crate.name == PROGRAM:
             return self.fault_of_program(work.run.log)
         if not is_library_there(self.top, work.crate.name):
-            return "is proved, as is said, and its library isn't there"
+            return "was reported as proved, but its library is missing"
         put_mark(self.top, work.crate.name, self.sums[work.crate.name])
         return None
 
@@ -187,9 +187,9 @@ class Builder:
                 )
             except (OSError, subprocess.TimeoutExpired) as error:
                 told.write(f"{error}\n".encode(errors="backslashreplace"))
-                return "is linked, and doesn't run"
+                return "was linked, but doesn't run"
         if ran.returncode != 0:
-            return f"is linked, and ends with status {ran.returncode} where it is tried"
+            return f"was linked, but its trial run ended with status {ran.returncode}"
         os.replace(linked, out / PROGRAM)
         return None
 

@@ -47,7 +47,7 @@ def prove(top: Path, teller: Teller, words: list[str]) -> int:
     if found.identity is None:
         build(top, teller, found.why or "", sources)
     elif not words:
-        teller.say("the program is proved and built already")
+        teller.say("the program is already proved and built")
     if words:
         become(program_of(top), words)
     return 0
@@ -57,7 +57,7 @@ def proved(top: Path, words: list[str]) -> NoReturn:
     """Runs the proved program, or refuses."""
     found = looked_at(top)
     if found.identity is None:
-        raise Fault(f"{found.why}, and without a proof --proved has no answer; {unproved.PROVE} ({unproved.TAKES})")
+        raise Fault(f"{found.why}, and --proved refuses an answer without proof; {unproved.PROVE} ({unproved.TAKES})")
     become(program_of(top), words)
 
 
@@ -103,7 +103,7 @@ def told(top: Path, teller: Teller, words: list[str]) -> int:
         teller.say(str(fault))
     except OSError as error:
         why = words_of(error)
-        space = " (remove what isn't needed, and call it again)" if os.strerror(errno.ENOSPC) in why else ""
+        space = " (free some space, and call again)" if os.strerror(errno.ENOSPC) in why else ""
         head = "the build failed" if words[:1] == ["--prove"] else "no answer"
         teller.say(f"{head}: {why}{space}")
     return 1

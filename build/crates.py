@@ -35,7 +35,7 @@ def read_crates(text: str) -> dict[str, Crate]:
     found = [(line, LINE.fullmatch(line)) for line in lines if line]
     for line, parts in found:
         if parts is None:
-            raise Fault(f"crates.txt has the line '{line}', which lists no crate")
+            raise Fault(f"crates.txt: the line '{line}' does not list a crate")
     listed = {parts[1]: (line, parts[3].split()) for line, parts in found if parts}
     return {
         name: Crate(name, line, tuple(it for it in words if it in listed)) for name, (line, words) in listed.items()
@@ -48,7 +48,7 @@ def below(crates: dict[str, Crate], name: str) -> list[Crate]:
 
     def visit(crate: Crate, above: tuple[str, ...]) -> None:
         if crate.name in above:
-            raise Fault(f"by crates.txt {crate.name} stands on itself")
+            raise Fault(f"crates.txt: {crate.name} depends on itself")
         for it in crate.names:
             if it not in found:
                 visit(crates[it], (*above, crate.name))

@@ -20,7 +20,7 @@ def read_table(text: str) -> dict[str, float]:
         if line.strip() and not line.startswith("#"):
             row = ROW.fullmatch(line.strip())
             if row is None:
-                raise Fault(f"build/seconds.txt has the line '{line}', which isn't a crate and its seconds")
+                raise Fault(f"build/seconds.txt has the line '{line}'; expected a crate and its seconds")
             found[row[1]] = float(row[2])
     return found
 

@@ -38,7 +38,7 @@ def main(words: list[str]) -> int:
         rtlib: Any = load(os.path.join(os.path.dirname(os.path.realpath(rt)), "rtlib.py"), "rtlib")
         crate = crate_of(rtlib, os.getcwd(), name)
     except UnknownToolchain as error:
-        print(f"the toolchain of {rt} isn't laid out as this build expects it: {error}", flush=True)
+        print(f"the toolchain of {rt} has another layout than this build expects: {error}", flush=True)
         return UNKNOWN_TOOLCHAIN
     rtlib.stop_on_text(crate, "verdict")
     if crate.is_program:

@@ -39,7 +39,7 @@ def make_folders(top: Path, sources: Sources) -> None:
         trial.write_bytes(b"")
         trial.unlink()
     except OSError as error:
-        raise Fault(f"the program has to be built, and {error.filename} can't be written: {error.strerror}") from error
+        raise Fault(f"the program must be built, but {error.filename} can't be written: {error.strerror}") from error
 
 
 def build(top: Path, teller: Teller, why: str, sources: Sources) -> None:
@@ -47,28 +47,28 @@ def build(top: Path, teller: Teller, why: str, sources: Sources) -> None:
     try:
         build_locked(top, teller, found_rt(top, why), sources)
     except (Stopped, KeyboardInterrupt) as stopped:
-        teller.say("stopped; the next ./gicstudy --prove goes on from here")
+        teller.say("stopped; the next ./gicstudy --prove continues from here")
         raise stopped if isinstance(stopped, Stopped) else Stopped(signal.SIGINT) from None
 
 
 def build_locked(top: Path, teller: Teller, rt: str, sources: Sources) -> None:
     make_folders(top, sources)
     with ExitStack() as held:
-        held.enter_context(locked(top / "crates", teller, "waits for another build of this checkout to end"))
+        held.enter_context(locked(top / "crates", teller, "waiting for another build of this checkout"))
         # (in the order in which rt takes them, so that neither waits for what the other holds)
         for folder in sorted({os.path.realpath(top / "crates" / it.name) for it in sources.crates}):
-            waits = f"waits for rt, which works in crates/{os.path.basename(folder)}, to end"
+            waits = f"waiting for rt, which is at work in crates/{os.path.basename(folder)}"
             held.enter_context(locked(Path(folder), teller, waits))
         sources = read_sources(top)
         found = look(top, sources)
         if found.identity is not None:
             keep(top, sources, found.identity)
             return
-        teller.say("builds the program; what isn't proved yet is proved first")
+        teller.say("building the program; crates without a proof are proved first")
         builder = builder_for(top, rt, toolchain_of(rt), sources, teller)
         needed, free = machine.disk_for(builder.left(), len(sources.crates)), machine.free_disk(top)
         if free < needed:
-            raise Fault(f"this build needs {needed / 1e9:.1f} GB on the disk, and {top} has {free / 1e9:.1f} GB left")
+            raise Fault(f"this build needs {needed / 1e9:.1f} GB of disk, but {top} has {free / 1e9:.1f} GB left")
         builder.build()
         content, identity = read_program(program_of(top))
         keep(top, sources, identity, sources.record(content))

@@ -68,23 +68,23 @@ def is_there(top: Path) -> bool:
 
 def look(top: Path, sources: Sources) -> Look:
     if not is_there(top):
-        return Look("no proved program is here")
+        return Look("there is no proved program")
     kept = text_of(record_of(top))
     if kept is None:
-        return Look("nothing tells of which sources the program was built")
+        return Look("there is no record of the sources of the program")
     content, identity = read_program(program_of(top))
     differs = first_difference(kept, sources.record(content))
     if differs is not None:
-        return Look(f"{differs} isn't as it was when the program was built")
+        return Look(f"{differs} has changed since the program was built")
     return Look(None, identity, sum_of(content))
 
 
 def no_toolchain(top: Path, why: str) -> Fault:
     """What is told where something has to be compiled or built, for this reason, and the toolchain isn't there."""
-    other = f", or run the program as it is, {program_of(top)}" if is_there(top) else ""
+    other = f", or run the existing program, {program_of(top)}" if is_there(top) else ""
     return Fault(
-        f"{why}, and the command rt, which compiles and proves it, isn't on the path: "
-        f"put the folder bin of the Rattle toolchain on the path{other}"
+        f"{why}, and the command rt, which compiles and proves it, is not on the path: "
+        f"add the folder bin of the Rattle toolchain to the path{other}"
     )
 
 

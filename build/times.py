@@ -14,7 +14,7 @@ from plan import longest_chain
 from snapshot import out_of
 from sources import LIST
 
-HEAD = "# Processor seconds of the proof of each crate, as bench/build.sh measured them last; who isn't here counts by its lines.\n"
+HEAD = "# Processor seconds of the proof of each crate, as bench/build.sh last measured it; a crate that is missing counts by its lines.\n"
 
 
 @dataclass(frozen=True)

@@ -28,9 +28,9 @@ from trial import TRIAL, copy_in, run_trial
 
 PROVE = "./gicstudy --prove proves and builds it"
 # What a first build takes, as bench/README.md has it.
-TAKES = "ten to forty minutes on four processors, twice that on two"
-UNPROVED = f"this answer is of the program compiled without proof here, and nothing is promised of it; {PROVE} ({TAKES})"
-COMPILES = "compiles the program first, which takes a minute or two; "
+TAKES = "10 to 40 minutes on four processors, twice as long on two"
+UNPROVED = f"this answer comes from the program compiled without proof, and nothing is guaranteed; {PROVE} ({TAKES})"
+COMPILES = "compiling the program first, a minute or two; "
 
 PARTS = ("src",)
 RECORD = "record"
@@ -163,7 +163,7 @@ class Compiler:
     def refusal(self, told: list[str], copy: Path) -> Fault:
         for line in told[-LAST_LINES:]:
             self.teller.say(f"| {line.replace(str(copy), str(self.top))}")
-        return Fault("no answer: rt try, whose last lines stand above, can't compile and run the program")
+        return Fault("no answer: rt try can't compile and run the program; its last lines are above")
 
     def answer(self, words: list[str]) -> int:
         """Answers by a run of `rt try` itself, on copies of the files."""
@@ -173,7 +173,7 @@ class Compiler:
         if trial.status is None:
             last = trial.told[-2:-1] or trial.told
             why = f" ({last[0]})" if last else ""
-            raise Fault(f"no answer: rt try gives none of a long run or a report above 1 MiB{why}; {PROVE}")
+            raise Fault(f"no answer: rt try can't handle a long run or a report above 1 MiB{why}; {PROVE}")
         try:
             write(1, trial.out)
         except BrokenPipeError:
@@ -230,7 +230,7 @@ def answered(status: int, told: bytes) -> int:
         raise Stopped(-status)
     found = SANITIZER.search(told)
     why = found[1].decode(errors="replace") if found else f"status {status}" if status > 0 else f"signal {-status}"
-    raise Fault(f"no answer, also where a report has begun: the program compiled without proof was stopped ({why}); {PROVE}")
+    raise Fault(f"no answer: a fault stopped the program compiled without proof ({why}), and the output may be cut short; {PROVE}")
 
 
 def publish(program: Path, folder: Path) -> Path:
@@ -250,13 +250,13 @@ def answer(top: Path, teller: Teller, sources: Sources, words: list[str], why: s
     for _ in range(2):
         with suppress(Gone):
             return answer_once(top, teller, sources, words, why)
-    raise Fault(f"no answer: calls of other sources remove the program compiled without proof; {PROVE}")
+    raise Fault(f"no answer: calls with other sources keep removing the program compiled without proof; {PROVE}")
 
 
 def answer_once(top: Path, teller: Teller, sources: Sources, words: list[str], why: str | None) -> int:
     shelf, rt = shelf_of(top), shutil.which("rt")
     head = f"{why}; " if why else ""
-    lacking = no_toolchain(top, why or "no proved program is here")
+    lacking = no_toolchain(top, why or "there is no proved program")
     toolchain = find_toolchain(shelf, rt)
     if toolchain is None:
         raise lacking
@@ -282,7 +282,7 @@ def answer_by(compiler: Compiler, program: Path | None, words: list[str]) -> int
 
 def compile_kept(compiler: Compiler, shelf: Path, folder: Path, toolchain: Toolchain) -> Path | None:
     """The program on the shelf, which another call may have put there meanwhile; None where none can be kept."""
-    with locked(shelf, compiler.teller, "waits for another call, which compiles the program"):
+    with locked(shelf, compiler.teller, "waiting for another call to compile the program"):
         program = kept_program(folder)
         if program is not None:
             return program

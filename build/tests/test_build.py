@@ -80,7 +80,7 @@ class Builds(unittest.TestCase):
         for older in ((3, 10), (3, 6), (2, 7)):
             with contextlib.redirect_stderr(io.StringIO()) as said:
                 self.assertEqual(main.main([], older), 1)
-            self.assertRegex(said.getvalue(), r"\Agicstudy: .*python3 .* isn't 3\.11 or later\n\Z")
+            self.assertRegex(said.getvalue(), r"\Agicstudy: .*needs Python 3\.11 or later; the python3 .* is older\n\Z")
 
     def test_a_build_that_another_has_made_meanwhile_is_none(self) -> None:
         self.build()
@@ -107,7 +107,7 @@ class Builds(unittest.TestCase):
         os.utime(record, (1, 1))
         status, _, said = self.at.prove(has_rt=False)
         self.assertEqual(status, 1)
-        self.assertRegex(said, r"\Agicstudy: nothing tells of which sources the program was built, .*\n\Z")
+        self.assertRegex(said, r"\Agicstudy: there is no record of the sources of the program, .*\n\Z")
         self.assertEqual(self.at.prove()[0], 0)
 
     def test_lists_that_cannot_be_read_are_told_in_a_line(self) -> None:
@@ -170,12 +170,12 @@ class Builds(unittest.TestCase):
     def test_without_the_toolchain_it_says_how_to_go_on(self) -> None:
         status, _, said = self.at.prove(has_rt=False)
         self.assertEqual(status, 1)
-        self.assertRegex(said, r"\Agicstudy: no proved program is here, .*rt.* isn't on the path: put .*\n\Z")
+        self.assertRegex(said, r"\Agicstudy: there is no proved program, .*rt.* is not on the path: add .*\n\Z")
         self.build()
         self.at.write("low", "low again")
         status, _, said = self.at.prove(has_rt=False)
         self.assertEqual(status, 1)
-        self.assertRegex(said, r"\Agicstudy: crates/low/src/lib.rt isn't as it was .*or run the program as it is, .*\n\Z")
+        self.assertRegex(said, r"\Agicstudy: crates/low/src/lib.rt has changed .*or run the existing program, .*\n\Z")
 
     def test_a_source_saved_while_it_builds_is_built_by_the_next_call(self) -> None:
         self.at.write("high", "high SLOW")
@@ -199,7 +199,7 @@ class Builds(unittest.TestCase):
         status, _, said = self.at.prove()
         self.assertEqual(status, 1)
         log = self.at.top / "crates/left/out/build.log"
-        self.assertIn(f"gicstudy: left isn't proved; the last lines of {log}:\n", said)
+        self.assertIn(f"gicstudy: left was not proved; the last lines of {log}:\n", said)
         self.assertIn("gicstudy: | src/lib.rt:1:1: error: it isn't proved\n", said)
         self.assertEqual(said.splitlines()[-1], f"gicstudy: the build failed; its log is {log}")
         self.assertIn("error", log.read_text(encoding="utf-8"))
@@ -213,7 +213,7 @@ class Builds(unittest.TestCase):
         self.at.write("left", "left LOST")
         status, _, said = self.at.prove()
         self.assertEqual(status, 1)
-        self.assertIn("gicstudy: left is proved, as is said, and its library isn't there; the last lines", said)
+        self.assertIn("gicstudy: left was reported as proved, but its library is missing; the last lines", said)
         self.assertNotIn("left is proved; ", said)
 
     def test_a_program_that_ends_with_another_status_takes_no_place(self) -> None:
@@ -222,7 +222,7 @@ class Builds(unittest.TestCase):
         self.at.write("gicstudy", "gicstudy BROKEN")
         status, _, said = self.at.prove()
         self.assertEqual(status, 1)
-        self.assertIn("gicstudy: gicstudy is linked, and ends with status 8 where it is tried; the last lines", said)
+        self.assertIn("gicstudy: gicstudy was linked, but its trial run ended with status 8; the last lines", said)
         self.assertEqual((self.at.out / "gicstudy").read_bytes(), before)
 
     def test_a_toolchain_of_another_kind_is_told(self) -> None:
@@ -230,7 +230,7 @@ class Builds(unittest.TestCase):
         status, _, said = self.at.prove()
         self.assertEqual(status, 1)
         self.assertIn("gicstudy: low can't be built with a toolchain of the tests; the last lines", said)
-        self.assertIn("isn't laid out as this build expects it", said)
+        self.assertIn("has another layout than this build expects", said)
 
     def test_a_killed_proof_is_tried_once_more_alone(self) -> None:
         self.at.write("high", "high KILLED")
@@ -247,7 +247,7 @@ class Builds(unittest.TestCase):
             started.send_signal(number)
             said = started.communicate(timeout=30)[1]
             self.assertEqual(started.returncode, -number)
-            self.assertIn("gicstudy: stopped; the next ./gicstudy --prove goes on from here\n", said)
+            self.assertIn("gicstudy: stopped; the next ./gicstudy --prove continues from here\n", said)
             self.assertNotIn("gicstudy/out/snapshot", self.at.left())
             self.at.forget()
         self.assertEqual(self.at.prove()[0], 0)
@@ -272,7 +272,7 @@ class Builds(unittest.TestCase):
         self.at.wait_for("high")
         status, out, said = self.at.prove("second")
         self.assertEqual((status, out), (0, "gicstudy: second\n"))
-        self.assertEqual(said, "gicstudy: waits for another build of this checkout to end\n")
+        self.assertEqual(said, "gicstudy: waiting for another build of this checkout\n")
         self.assertEqual(first.communicate(timeout=300)[0], "gicstudy: first\n")
         self.assertEqual(sorted(self.at.noted()), sorted(PROVED))
 
@@ -289,13 +289,13 @@ class Builds(unittest.TestCase):
         status, _, said = self.at.prove()
         self.assertEqual(status, 1)
         out = self.at.top / "crates/low/out"
-        self.assertIn(f"gicstudy: the program has to be built, and {out} can't be written: ", said)
+        self.assertIn(f"gicstudy: the program must be built, but {out} can't be written: ", said)
 
     def test_a_disk_without_room_fails_the_build(self) -> None:
         full = "import errno, os, snapshot\ndef fill(*_): raise OSError(errno.ENOSPC, os.strerror(errno.ENOSPC))\n"
         status, _, said = self.at.call_with(f"{full}snapshot.Snapshot.fill = fill", "--prove")
         self.assertEqual(status, 1)
-        self.assertRegex(said.splitlines()[-1], r"\Agicstudy: the build failed: No space left on device \(remove .*\)\Z")
+        self.assertRegex(said.splitlines()[-1], r"\Agicstudy: the build failed: No space left on device \(free .*\)\Z")
 
     def test_folders_are_locked_in_the_order_of_rt(self) -> None:
         folders = {name: os.open(self.at.top / "crates" / name, os.O_RDONLY) for name in PROVED}
@@ -304,7 +304,7 @@ class Builds(unittest.TestCase):
         fcntl.flock(folders["left"], fcntl.LOCK_EX)
         started = self.at.start("--prove", "field")
         assert started.stderr is not None
-        self.assertEqual(started.stderr.readline(), "gicstudy: waits for rt, which works in crates/left, to end\n")
+        self.assertEqual(started.stderr.readline(), "gicstudy: waiting for rt, which is at work in crates/left\n")
         held = [name for name in sorted(PROVED) if name != "left" and is_held(folders[name])]
         self.assertEqual(held, ["gicstudy", "high"])
         fcntl.flock(folders["left"], fcntl.LOCK_UN)

@@ -20,7 +20,7 @@ from unproved import COMPILES, PROVE, UNPROVED
 
 FIRST = f"gicstudy: {COMPILES}{UNPROVED}\n"
 LATER = f"gicstudy: {UNPROVED}\n"
-WAITS = "gicstudy: waits for another call, which compiles the program\n"
+WAITS = "gicstudy: waiting for another call to compile the program\n"
 # A change by which the first program that is found on the shelf is gone before it runs.
 GONE = """
 import shutil, unproved
@@ -129,7 +129,7 @@ class First(unittest.TestCase):
         for word, why in (("fault", "AddressSanitizer: stack-overflow on address 1"), ("crash", "signal 11")):
             status, _, said = self.at.call(word)
             self.assertEqual(status, 1)
-            self.assertRegex(said.removeprefix(LATER), rf"\Agicstudy: no answer, .* was stopped \({why}\); .*{PROVE}\n\Z")
+            self.assertRegex(said.removeprefix(LATER), rf"\Agicstudy: no answer: .* without proof \({why}\), .*; {PROVE}\n\Z")
         self.assertEqual(self.at.call("pipe")[0], -signal.SIGPIPE)
         self.assertEqual(self.at.call("environment", ASAN_OPTIONS="detect_leaks=1")[:2], (0, ""))
 
@@ -281,7 +281,7 @@ class First(unittest.TestCase):
     def test_without_the_toolchain_only_a_kept_program_answers(self) -> None:
         status, out, said = self.at.call("screen", has_rt=False)
         self.assertEqual((status, out), (1, ""))
-        self.assertRegex(said, r"\Agicstudy: no proved program is here, and the command rt, .* on the path\n\Z")
+        self.assertRegex(said, r"\Agicstudy: there is no proved program, and the command rt, .* on the path\n\Z")
         self.at.call("screen")
         self.assertEqual(self.at.call("screen", has_rt=False), (0, "gicstudy without proof: screen\n", LATER))
         self.at.write("low", "low again")
@@ -293,7 +293,7 @@ class First(unittest.TestCase):
         self.assertEqual((status, out), (1, ""))
         self.assertRegex(
             said,
-            r"\Agicstudy: crates/low/src/lib.rt isn't as it was when the program was built, and the command rt, .* on the path, "
+            r"\Agicstudy: crates/low/src/lib.rt has changed since the program was built, and the command rt, .* on the path, "
             rf"or run the program as it is, {self.at.out / 'gicstudy'}\n\Z",
         )
 
@@ -331,7 +331,7 @@ class First(unittest.TestCase):
         status, _, said = self.at.call("fault", TMPDIR=str(self.work))
         self.assertEqual(status, 1)
         why = "AddressSanitizer: stack-overflow on address 1"
-        self.assertRegex(said.removeprefix(FIRST), rf"\Agicstudy: no answer, .* was stopped \({why}\); {PROVE}\n\Z")
+        self.assertRegex(said.removeprefix(FIRST), rf"\Agicstudy: no answer: .* without proof \({why}\), .*; {PROVE}\n\Z")
         started = self.at.start("screen", TMPDIR=str(self.work))
         assert started.stdout is not None and started.stderr is not None
         started.stdout.close()
@@ -368,7 +368,7 @@ class First(unittest.TestCase):
     def test_proved_refuses_where_no_proof_is_there(self) -> None:
         status, out, said = self.at.call("--proved", "screen")
         self.assertEqual((status, out), (1, ""))
-        self.assertRegex(said, rf"\Agicstudy: no proved program is here, .*; {PROVE} .*\n\Z")
+        self.assertRegex(said, rf"\Agicstudy: there is no proved program, .*; {PROVE} .*\n\Z")
         self.assertEqual(self.at.call("--prove")[:2], (0, ""))
         self.at.settle()
         for words in (["screen"], ["--proved", "screen"], ["--prove", "screen"]):
@@ -384,13 +384,13 @@ class First(unittest.TestCase):
         self.at.prove()
         self.at.settle()
         self.at.write("right", "right again")
-        differs = "crates/right/src/lib.rt isn't as it was when the program was built; "
+        differs = "crates/right/src/lib.rt has changed since the program was built; "
         said = f"gicstudy: {differs}{COMPILES}{UNPROVED}\n"
         self.assertEqual(self.at.call("screen"), (0, "gicstudy without proof: screen\n", said))
         self.assertEqual(self.at.noted(), [])
         status, _, said = self.at.call("--proved", "screen")
         self.assertEqual(status, 1)
-        self.assertRegex(said, r"\Agicstudy: crates/right/src/lib.rt isn't as it was .*\n\Z")
+        self.assertRegex(said, r"\Agicstudy: crates/right/src/lib.rt has changed .*\n\Z")
         self.at.write("right", "right")
         self.assertEqual(self.at.call("screen"), (0, "gicstudy: screen\n", ""))
 
@@ -517,7 +517,7 @@ class First(unittest.TestCase):
             self.assertEqual((status, said), (0, ""))
             return out.splitlines()
 
-        none = ["commit unknown", "proved none: no proved program is here", "unproved none"]
+        none = ["commit unknown", "proved none: there is no proved program", "unproved none"]
         self.assertEqual(told(), none)
         self.assertEqual(told(has_rt=False), none)
         self.at.call("screen")
@@ -536,7 +536,7 @@ class First(unittest.TestCase):
             file.write("more:\n")
         self.assertRegex(told()[0], r"\Acommit [0-9a-f]{40}, with changes\Z")
         self.at.write("low", "low again")
-        self.assertEqual(told()[1:], ["proved none: crates/low/src/lib.rt isn't as it was when the program was built", "unproved none"])
+        self.assertEqual(told()[1:], ["proved none: crates/low/src/lib.rt has changed since the program was built", "unproved none"])
 
     def test_a_version_that_cannot_be_written_is_told(self) -> None:
         ran = subprocess.run(

@@ -1,15 +1,14 @@
 -- How great the currents of varied solutions can be: a lift of one voltage at all grounds is flat, so that potentials lie within 21 times the bound of the reference's.
-use Rattle.std.proofs.Common.{◌≡◌, ℕ, ◌+◌, ◌-◌, ◌*◌, ◌^◌, ◌<◌, ◌≤◌, Bool, true, false, cond, ◌==◌, List, [], ◌∷◌, ℤ, pos, ◌+ℤ◌, ◌-ℤ◌, ◌*ℤ◌, neg_ℤ, ◌≤ℤ◌, unsigned_abs, arith, refl, ap, sym, subst, ◌∙◌, ◌⊎◌, ⊎_elim, eq-eqb, ne_eqb}
+use Rattle.std.proofs.Common.{◌≡◌, ℕ, ◌+◌, ◌-◌, ◌*◌, ◌^◌, ◌<◌, ◌≤◌, Bool, true, false, List, ℤ, pos, ◌+ℤ◌, ◌-ℤ◌, ◌*ℤ◌, neg_ℤ, ◌≤ℤ◌, unsigned_abs, arith, refl, ap, sym, ◌∙◌, ◌⊎◌, ⊎_elim}
 use lib.IntN.{*ℤ_comm, *ℤ-zero}
 use Rattle.std.proofs.Math.IntN.{*ℤ-one}
-use Rattle.std.specs.List.{All, AllByRecursion, enumerate_from}
+use Rattle.std.specs.List.{All, AllByRecursion}
 use Rattle.std.proofs.lemmas.Int.{ints}
 use Rattle.std.proofs.lemmas.List.Elements.{recursion_from_All, All-from_recursion}
 use Rattle.std.proofs.Math.Nat.{mul-le-mul_left, mul-le-mul_right}
 use Rattle.gic_base.specs.declared.limits.TheConstants.{MOST_WALK}
 use Rattle.gic_base.proofs.Each.{weaker}
 use Rattle.gic_fixed.proofs.Integers.{linear, *ℤ-≤ℤ, ≤ℤ-from_*ℤ, *ℤ-neg_ℤ}
-use Rattle.gic_fixed.proofs.Sums.{sum_of-same}
 use Rattle.gic_exists.specs.Exists.{HasSolution}
 use Rattle.gic_exists.proofs.InNetworks.{exists_in}
 use Rattle.gic_model.specs.declared.parts.End.{End}
@@ -17,108 +16,25 @@ use Rattle.gic_model.specs.declared.parts.End.TheVariants.{Node, Earth}
 use Rattle.gic_model.specs.declared.parts.Element.{Element}
 use Rattle.gic_model.specs.declared.parts.Item.{Item}
 use Rattle.gic_model.specs.Bound.{IsEarthedWithin}
-use Rattle.gic_model.specs.Earthing.{is_earth, AreEarthed}
+use Rattle.gic_model.specs.Earthing.{AreEarthed}
 use Rattle.gic_model.specs.Limits.{IsWithinLimits, IsElementWithin, AreVolts, most_volts}
 use Rattle.gic_model.specs.Network.{Network, ends_at}
 use Rattle.gic_model.specs.Solution.{Solution, IsOhm}
-use Rattle.gic_model.specs.Standing.{standing_elements, is_live, IsLive, elements_at, value_at, leaving}
+use Rattle.gic_model.specs.Standing.{standing_elements, is_live, IsLive, value_at}
 use Rattle.gic_model.specs.Sums.{Placed}
 use Rattle.gic_model.proofs.Ends.{standing_within, ends_live, from_own, end_own, IsLiveEnd}
-use Rattle.gic_model.proofs.Members.{kept, both}
+use Rattle.gic_model.proofs.Members.{both}
 use Rattle.gic_model.proofs.Pushes.{potentials_bounded}
 use Rattle.gic_varied.specs.Grounds.{is_ground, HaveNoGroundVolts}
-use Rattle.gic_varied.specs.Lifts.{IsLift, AreLifts, with_least}
-use Rattle.gic_varied.specs.Ranges.{Range, Ranges, ground_range, ranges_of, AreInRanges, IsInRange}
+use Rattle.gic_varied.specs.Lifts.{AreLifts, with_least}
+use Rattle.gic_varied.specs.Ranges.{Ranges, ground_range, ranges_of, AreInRanges}
 use Rattle.gic_varied.specs.Varied.{IsVaried}
 use Rattle.gic_varied.specs.Bounds.{AreModest}
+use Rattle.gic_varied.specs.Corners.{all_least}
+use Rattle.gic_varied.proofs.FlatLifts.{even, flat, solves_flat, flat_lifts}
 use Rattle.gic_varied.proofs.Lifted.{raised, lowered}
 use Rattle.gic_varied.proofs.OtherGrounds.{earthed_with}
-use Rattle.gic_varied.proofs.Regrounded.{placed_with, SolvesWith, solves_with, standing_with, live_with}
-use Rattle.gic_varied.proofs.Tellegen.{sum_of_zeros}
-
--- over plain numbers: a voltage of 20 b lifts over potentials up to b
-lift_of_twenty : (range : Range) (b d : ℕ) (z : ℤ) → range.least ≤ range.most → range.most ≤ 20 * range.least → z ≤ℤ pos (b * d) → IsLift range range.least z d (neg_ℤ (pos (20 * b)))
-lift_of_twenty range b d z order modest below =
-    let twice : neg_ℤ (neg_ℤ (pos (20 * b))) ≡ pos (20 * b) = omega (arith, linear) in
-    record {
-      not_above_0 = omega (arith, linear);
-      to_most =
-          let fall = ap (λ y. y *ℤ z) (difference range.most range.least order) in
-          let step = *ℤ-≤ℤ (range.most - range.least) z (pos (b * d)) below in
-          let wide : (range.most - range.least) * (b * d) ≤ 20 * range.least * (b * d) = mul-le-mul_right (b * d) (omega arith) in
-          let whole = ap (λ y. pos (d * range.least) *ℤ y) twice in
-          let turned : 20 * range.least * (b * d) ≡ d * range.least * (20 * b) = omega arith in
-          omega (arith, linear);
-      to_least =
-          let none : pos range.least -ℤ pos range.least ≡ pos 0 = omega (arith, linear) in
-          let nothing = ap (λ y. pos range.most *ℤ (y *ℤ z)) none ∙ ap (λ y. pos range.most *ℤ y) (*ℤ_comm (pos 0) z ∙ *ℤ-zero z) ∙ *ℤ-zero (pos range.most) in
-          let whole = ap (λ y. pos (d * range.least * range.least) *ℤ y) twice in
-          omega (arith, linear);
-    }
-  where
-    difference : (m l : ℕ) → l ≤ m → pos m -ℤ pos l ≡ pos (m - l)
-    difference m l h = omega (arith, linear)
-
--- whether the element at a place is a ground
-abbrev ground_at : (i : ℕ) → List Element → ℕ → Bool
-ground_at i [] place = false
-ground_at i (e ∷ es) place = cond (i == place) (is_ground e) (ground_at (i + 1) es place)
-
-record IsFound (i : ℕ) (es : List Element) (p : Placed) : Type 0 where
-  from : i ≤ p.0
-  is : ground_at i es p.0 ≡ is_ground p.1
-
-found : (i : ℕ) (es : List Element) → AllByRecursion (IsFound i es) (enumerate_from i es)
-found i [] = tt
-found i (e ∷ es) = (
-  record { from = omega arith; is = ap (λ b. cond b (is_ground e) (ground_at (i + 1) es i)) (eq-eqb i i refl) },
-  weaker (IsFound (i + 1) es) (IsFound i (e ∷ es))
-      (λ p h. let from = h.from in
-      record { from = omega arith; is = ap (λ b. cond b (is_ground e) (ground_at (i + 1) es p.0)) (ne_eqb i p.0 (λ same. omega arith)) ∙ h.is })
-      (enumerate_from (i + 1) es) (found (i + 1) es),
-)
-
--- one voltage at all grounds of a network
-abbrev even : Network → (v : ℕ) → ℕ → ℤ
-even network v place = cond (ground_at 0 network.list place) (neg_ℤ (pos v)) (pos 0)
-
-found_standing : (network : Network) (stands : Item → Bool) → AllByRecursion (IsFound 0 network.list) (standing_elements network stands)
-found_standing network stands = kept (λ p. stands p.1.item) (IsFound 0 network.list) (IsFound 0 network.list) (λ p is h. h) (enumerate_from 0 network.list) (found 0 network.list)
-
--- the potential that it gives everywhere, without a current
-abbrev flat : (v : ℕ) → Solution
-flat v = record { potential = λ k. pos v; current = λ place. pos 0; denominator = 1 }
-
-flat_ohm : (r w v : ℕ) (t : End) (u : ℤ) → u ≡ cond (is_earth t) (neg_ℤ (pos v)) (pos 0) → pos r *ℤ pos 0 ≡ pos w *ℤ (pos v -ℤ value_at (λ k. pos v) t +ℤ pos 1 *ℤ u)
-unfolding lib.IntN.one
-flat_ohm r w v t u is = *ℤ-zero (pos r) ∙ sym (ap (λ z. pos w *ℤ z) (inner t is) ∙ *ℤ-zero (pos w))
-  where
-    inner : (t : End) → u ≡ cond (is_earth t) (neg_ℤ (pos v)) (pos 0) → pos v -ℤ value_at (λ k. pos v) t +ℤ pos 1 *ℤ u ≡ pos 0
-    inner (Node m) is = let once : pos 1 *ℤ u ≡ u = *ℤ_comm (pos 1) u ∙ *ℤ-one u in omega (arith, linear)
-    inner Earth is = let once : pos 1 *ℤ u ≡ u = *ℤ_comm (pos 1) u ∙ *ℤ-one u in omega (arith, linear)
-
--- the voltage of an element among those that stand
-even_at : (network : Network) (v : ℕ) (p : Placed) → IsFound 0 network.list p → even network v p.0 ≡ cond (is_ground p.1) (neg_ℤ (pos v)) (pos 0)
-even_at network v p h = ap (λ b. cond b (neg_ℤ (pos v)) (pos 0)) h.is
-
-nothing_leaves : (k : ℕ) (ps : List Placed) → AllByRecursion (λ p. leaving k p.1 (pos 0) ≡ pos 0) ps
-nothing_leaves k [] = tt
-nothing_leaves k (p ∷ ps) = (either (p.1.from.0 == k), nothing_leaves k ps)
-  where
-    either : (b : Bool) → cond b (pos 0) (neg_ℤ (pos 0)) ≡ pos 0
-    either true = refl
-    either false = refl
-
-solves_flat : (network : Network) (stands : Item → Bool) (most : Element → ℕ) (v : ℕ) → SolvesWith (standing_elements network stands) most (even network v) (flat v)
-solves_flat network stands most v = record {
-  denominator_above_0 = omega arith;
-  by_ohm = weaker (IsFound 0 network.list) (λ p. IsOhm (even network v) (flat v) (placed_with most p))
-      (λ p h. flat_ohm (cond (is_ground p.1) (most p.1) p.1.micro_ohm) (p.1.times * 1000000) v p.1.to (even network v p.0) (even_at network v p h)) (standing_elements network stands) (found_standing network stands);
-  none_if_open = λ place none. refl;
-  kirchhoff = λ k live.
-      let here = elements_at (standing_elements network stands) k in
-      sum_of-same (λ p. leaving k p.1 (pos 0)) (λ p. pos 0) here (nothing_leaves k here) ∙ sum_of_zeros here;
-}
+use Rattle.gic_varied.proofs.Regrounded.{SolvesWith, solves_with, standing_with, live_with}
 
 -- over plain numbers: from what a lift bounds of a varied potential
 upper : (dr dv b : ℕ) (q p : ℤ) → 0 < dr → p ≤ℤ pos (b * dr) → (pos (dr * 1) *ℤ q) ≤ℤ (pos dv *ℤ (pos 1 *ℤ p +ℤ pos dr *ℤ pos (20 * b))) → q ≤ℤ pos (21 * b * dv)
@@ -214,37 +130,17 @@ varied_bounded network stands ranges volts varied limits least_limits earthed wi
         volts reference within volt solved.solves k (live_least k live)
 
     -- the flat lifts, over potentials of either sign
-    flat_lifts : (potential : ℕ → ℤ) → ((k : ℕ) → IsLive standing k → potential k ≤ℤ pos (bound * dr)) → AreLifts standing ranges least potential dr (even network (20 * bound))
-    flat_lifts potential below = record {
-      elsewhere = All-from_recursion (λ p. is_ground p.1 ≡ false → even network (20 * bound) p.0 ≡ pos 0) standing
-          (weaker (IsFound 0 network.list) (λ p. is_ground p.1 ≡ false → even network (20 * bound) p.0 ≡ pos 0)
-          (λ p h other. even_at network (20 * bound) p h ∙ ap (λ b. cond b (neg_ℤ (pos (20 * bound))) (pos 0)) other) standing (found_standing network stands));
-      at_grounds = All-from_recursion (λ p. is_ground p.1 ≡ true → IsLift (ranges p.1) (least p.1) (potential p.1.from.0) dr (even network (20 * bound) p.0)) standing
-          (weaker Known (λ p. is_ground p.1 ≡ true → IsLift (ranges p.1) (least p.1) (potential p.1.from.0) dr (even network (20 * bound) p.0))
-          (λ p h ground. subst (λ u. IsLift (ranges p.1) (least p.1) (potential p.1.from.0) dr u)
-          (sym (even_at network (20 * bound) p h.0.0 ∙ ap (λ b. cond b (neg_ℤ (pos (20 * bound))) (pos 0)) ground))
-          (lift_of_twenty (ranges p.1) bound dr (potential p.1.from.0) (h.1.0 ground).at_most (h.1.1 ground) (below p.1.from.0 (from_own p.1 (is_live standing) h.0.1)))) standing known);
-    }
-      where
-        Known : Placed → Type 0
-        Known p =
-            (IsFound 0 network.list p × ((m : ℕ) → ends_at p.1 m ≡ true → is_live standing m ≡ true)) ×
-            ((is_ground p.1 ≡ true → IsInRange (ranges p.1) (least p.1)) × (is_ground p.1 ≡ true → (ranges p.1).most ≤ 20 * (ranges p.1).least))
-
-        known : AllByRecursion Known standing
-        known =
-            both (λ p. IsFound 0 network.list p × ((m : ℕ) → ends_at p.1 m ≡ true → is_live standing m ≡ true))
-            (λ p. (is_ground p.1 ≡ true → IsInRange (ranges p.1) (least p.1)) × (is_ground p.1 ≡ true → (ranges p.1).most ≤ 20 * (ranges p.1).least)) standing
-            (both (IsFound 0 network.list) (λ p. (m : ℕ) → ends_at p.1 m ≡ true → is_live standing m ≡ true) standing (found_standing network stands) (ends_live standing))
-            (both (λ p. is_ground p.1 ≡ true → IsInRange (ranges p.1) (least p.1)) (λ p. is_ground p.1 ≡ true → (ranges p.1).most ≤ 20 * (ranges p.1).least) standing
-            (recursion_from_All (λ p. is_ground p.1 ≡ true → IsInRange (ranges p.1) (least p.1)) standing inside)
-            (recursion_from_All (λ p. is_ground p.1 ≡ true → (ranges p.1).most ≤ 20 * (ranges p.1).least) standing modest))
+    lifts_over : (potential : ℕ → ℤ) → ((k : ℕ) → IsLive standing k → potential k ≤ℤ pos (bound * dr)) → AreLifts standing ranges least potential dr (even network (20 * bound))
+    lifts_over potential below =
+        flat_lifts network stands ranges all_least bound dr potential inside modest
+        (weaker (λ p. (m : ℕ) → ends_at p.1 m ≡ true → is_live standing m ≡ true) (λ p. is_ground p.1 ≡ true → potential p.1.from.0 ≤ℤ pos (bound * dr))
+        (λ p live ground. below p.1.from.0 (from_own p.1 (is_live standing) live)) standing (ends_live standing))
 
     raising : AreLifts standing ranges least reference.potential dr (even network (20 * bound))
-    raising = flat_lifts reference.potential (λ k live. (one_way (bound * dr) (reference.potential k) (reference_bound k live)).0)
+    raising = lifts_over reference.potential (λ k live. (one_way (bound * dr) (reference.potential k) (reference_bound k live)).0)
 
     lowering : AreLifts standing ranges least (λ m. neg_ℤ (reference.potential m)) dr (even network (20 * bound))
-    lowering = flat_lifts (λ m. neg_ℤ (reference.potential m)) (λ k live. (one_way (bound * dr) (reference.potential k) (reference_bound k live)).1)
+    lowering = lifts_over (λ m. neg_ℤ (reference.potential m)) (λ k live. (one_way (bound * dr) (reference.potential k) (reference_bound k live)).1)
 
     flat_solves : SolvesWith standing most (even network (20 * bound)) (flat (20 * bound))
     flat_solves = solves_flat network stands most (20 * bound)

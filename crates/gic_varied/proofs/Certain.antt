@@ -92,11 +92,11 @@ minus_minus_bound : (high p : ℤ) (n : ℕ) → p ≤ℤ (high *ℤ pos n) → 
 minus_minus_bound high p n h = omega (arith, linear)
 
 -- the heights of the lifts bound the potentials that an interval holds, as they count at a node of the corner
-raising_bound : (b : Bool) (low high p : ℤ) (n : ℕ) → Encloses low high p n → cond b (neg_ℤ p) p ≤ℤ (cond b (neg_ℤ low) high *ℤ pos n)
+pub raising_bound : (b : Bool) (low high p : ℤ) (n : ℕ) → Encloses low high p n → cond b (neg_ℤ p) p ≤ℤ (cond b (neg_ℤ low) high *ℤ pos n)
 raising_bound true low high p n held = turned_bound low p n held.above_lo
 raising_bound false low high p n held = held.below_hi
 
-lowering_bound : (b : Bool) (low high p : ℤ) (n : ℕ) → Encloses low high p n → cond b (neg_ℤ (neg_ℤ p)) (neg_ℤ p) ≤ℤ (cond b high (neg_ℤ low) *ℤ pos n)
+pub lowering_bound : (b : Bool) (low high p : ℤ) (n : ℕ) → Encloses low high p n → cond b (neg_ℤ (neg_ℤ p)) (neg_ℤ p) ≤ℤ (cond b high (neg_ℤ low) *ℤ pos n)
 lowering_bound true low high p n held = minus_minus_bound high p n held.below_hi
 lowering_bound false low high p n held = turned_bound low p n held.above_lo
 

@@ -1,5 +1,5 @@
 -- The enclosure of a weighted current holds it in every varied solution.
-use Rattle.std.proofs.Common.{◌≡◌, ℕ, ◌*◌, ◌<◌, true, List, [], ◌∷◌, ℤ, pos, ◌+ℤ◌, ◌-ℤ◌, ◌*ℤ◌, arith, subst}
+use Rattle.std.proofs.Common.{◌≡◌, ℕ, ◌*◌, ◌<◌, true, List, [], ◌∷◌, ℤ, pos, ◌+ℤ◌, ◌-ℤ◌, ◌*ℤ◌, arith, sym, subst}
 use Rattle.std.specs.List.{AllByRecursion}
 use Rattle.std.proofs.lemmas.List.Elements.{recursion_from_All}
 use Rattle.gic_fixed.specs.Encloses.{Encloses}
@@ -24,33 +24,35 @@ use Rattle.gic_varied.proofs.Reciprocity.{reciprocal, reciprocal_alone, varied_k
 use Rattle.gic_varied.proofs.Strays.{stray_holds}
 use Rattle.gic_varied.proofs.Intervals.{sum_encloses}
 
--- over plain numbers: the reference's own current and the stray power give the varied one
+-- over plain numbers: a fraction that is made of two, each times a number
+pub made_of_two : (k m n of_a of_b of_s : ℕ) (a b s low high lo hi : ℤ) → 0 < k → pos k *ℤ a ≡ pos m *ℤ b +ℤ pos n *ℤ s → m * of_b ≡ k * of_a → n * of_s ≡ k * of_a →
+    Encloses low high b of_b → Encloses lo hi s of_s → Encloses (low +ℤ lo) (high +ℤ hi) a of_a
+made_of_two k m n of_a of_b of_s a b s low high lo hi some number one_over other_over first second =
+    Encloses-cancel (low +ℤ lo) (high +ℤ hi) a of_a k some
+    (subst (λ (z : ℤ). Encloses (low +ℤ lo) (high +ℤ hi) z (k * of_a)) (sym number)
+    (Encloses-add low high (pos m *ℤ b) lo hi (pos n *ℤ s) (k * of_a)
+    (subst (λ (d : ℕ). Encloses low high (pos m *ℤ b) d) one_over (Encloses-common low high b of_b m first))
+    (subst (λ (d : ℕ). Encloses lo hi (pos n *ℤ s) d) other_over (Encloses-common lo hi s of_s n second))))
+
+-- over plain numbers
+pub moved : (dy d dv : ℕ) (a b t : ℤ) → pos dy *ℤ (pos d *ℤ a -ℤ pos dv *ℤ b) ≡ t → pos (dy * d) *ℤ a ≡ pos (dy * dv) *ℤ b +ℤ t
+moved dy d dv a b t off =
+    let one : (pos dy *ℤ pos dv) *ℤ b ≡ pos dy *ℤ (pos dv *ℤ b) = *ℤ_assoc (pos dy) (pos dv) b in
+    let other : (pos dy *ℤ pos d) *ℤ a ≡ pos dy *ℤ (pos d *ℤ a) = *ℤ_assoc (pos dy) (pos d) a in
+    let inner = *ℤ--ℤ (pos dy) (pos d *ℤ a) (pos dv *ℤ b) in
+    omega (arith, linear)
+
+-- the reference's own current and the stray power give the varied one
 joined : (dy d dv unit : ℕ) (a b s low high lo hi : ℤ) → 0 < dy → 0 < d → pos dy *ℤ (pos d *ℤ a -ℤ pos dv *ℤ b) ≡ pos d *ℤ s →
     Encloses low high b (unit * d) → Encloses lo hi s (unit * (dy * dv)) → Encloses (low +ℤ lo) (high +ℤ hi) a (unit * dv)
-joined dy d dv unit a b s low high lo hi some_y some off own stray =
-    let first = subst (λ (n : ℕ). Encloses low high (pos (dy * dv) *ℤ b) n) one_over (Encloses-common low high b (unit * d) (dy * dv) own) in
-    let second = subst (λ (n : ℕ). Encloses lo hi (pos d *ℤ s) n) other_over (Encloses-common lo hi s (unit * (dy * dv)) d stray) in
-    let sum = Encloses-add low high (pos (dy * dv) *ℤ b) lo hi (pos d *ℤ s) (dy * d * (unit * dv)) first second in
-    Encloses-cancel (low +ℤ lo) (high +ℤ hi) a (unit * dv) (dy * d) (positive_product dy d some_y some)
-    (subst (λ (n : ℤ). Encloses (low +ℤ lo) (high +ℤ hi) n (dy * d * (unit * dv))) number sum)
-  where
-    one_over : dy * dv * (unit * d) ≡ dy * d * (unit * dv)
-    one_over = omega arith
+joined dy d dv unit a b s low high lo hi some_y some off =
+    made_of_two (dy * d) (dy * dv) d (unit * dv) (unit * d) (unit * (dy * dv)) a b s low high lo hi (positive_product dy d some_y some) (moved dy d dv a b (pos d *ℤ s) off) (omega arith) (omega arith)
 
-    other_over : d * (unit * (dy * dv)) ≡ dy * d * (unit * dv)
-    other_over = omega arith
-
-    number : pos (dy * dv) *ℤ b +ℤ pos d *ℤ s ≡ pos (dy * d) *ℤ a
-    number =
-        let one : (pos dy *ℤ pos dv) *ℤ b ≡ pos dy *ℤ (pos dv *ℤ b) = *ℤ_assoc (pos dy) (pos dv) b in
-        let other : (pos dy *ℤ pos d) *ℤ a ≡ pos dy *ℤ (pos d *ℤ a) = *ℤ_assoc (pos dy) (pos d) a in
-        let inner = *ℤ--ℤ (pos dy) (pos d *ℤ a) (pos dv *ℤ b) in
-        omega (arith, linear)
-
+-- all stray powers of two solutions, of which the second is a network's with these grounds, where intervals hold their products at the grounds
 module _ (nodes : ℕ) (standing : List Placed) (within : AllByRecursion (λ p. IsElementWithin nodes p.1) standing)
-    (ranges : Ranges) (ohm : Element → ℕ) (volts weights : ℕ → ℤ) (reference varied adjoint : Solution) (over unit : ℕ) (products : Placed → Ends)
-    (quiet : HaveNoGroundVolts standing volts) (light : HaveNoGroundVolts standing weights) (inside : AreInRanges ranges ohm standing) (some_unit : 0 < unit)
-    (refers : SolvesWith standing ohm volts reference) (varies : IsVaried standing ranges volts varied) (adjoins : SolvesWith standing ohm weights adjoint)
+    (ranges : Ranges) (ohm : Element → ℕ) (weights : ℕ → ℤ) (varied adjoint : Solution) (over unit : ℕ) (products : Placed → Ends)
+    (light : HaveNoGroundVolts standing weights) (inside : AreInRanges ranges ohm standing) (some_unit : 0 < unit)
+    (grounds_vary : AllByRecursion (λ p. is_ground p.1 ≡ true → IsGroundWithin ranges varied p) standing) (adjoins : SolvesWith standing ohm weights adjoint)
     (holds : HoldProducts standing over products varied adjoint) where
   -- what is known of one element
   abbrev Held : Placed → Type 0
@@ -68,7 +70,7 @@ module _ (nodes : ℕ) (standing : List Placed) (within : AllByRecursion (λ p. 
   known = gather standing within
       (recursion_from_All (λ p. is_ground p.1 ≡ true → weights p.0 ≡ pos 0) standing light)
       (recursion_from_All (λ p. is_ground p.1 ≡ true → IsInRange (ranges p.1) (ohm p.1)) standing inside)
-      (recursion_from_All (λ p. is_ground p.1 ≡ true → IsGroundWithin ranges varied p) standing varies.grounds)
+      grounds_vary
       adjoins.by_ohm
       (recursion_from_All (λ p. is_ground p.1 ≡ true → Held p) standing holds)
     where
@@ -96,21 +98,33 @@ module _ (nodes : ℕ) (standing : List Placed) (within : AllByRecursion (λ p. 
           (adjoint.potential p.1.from.0) (adjoint.current p.0) (products p) (omega arith) some_unit (h.in_range ground)
           (ground_drive ohm weights adjoint p ground (h.no_weight ground) h.by_adjoint) (h.at_varied ground) (h.is_held ground)
 
-  pub enclosed : (own : Ends) → Encloses own.low own.high (current_by_weights standing weights reference) (unit * over * reference.denominator) →
-      Encloses (enclosure_of standing ranges ohm unit products own).low (enclosure_of standing ranges ohm unit products own).high
-      (current_by_weights standing weights varied) (unit * over * varied.denominator)
-  enclosed own own_holds =
+  pub strays_held :
+      Encloses (sum_of (λ p. (stray_at ranges ohm unit products p).low) (grounds_among standing)) (sum_of (λ p. (stray_at ranges ohm unit products p).high) (grounds_among standing))
+      (all_stray_power standing varied adjoint) (unit * over * (adjoint.denominator * varied.denominator))
+  strays_held =
       let grounds = grounds_among standing in
       let low = λ (p : Placed). (stray_at ranges ohm unit products p).low in
       let high = λ (p : Placed). (stray_at ranges ohm unit products p).high in
       let sum = sum_encloses low high (stray_power varied adjoint) (unit * (over * (adjoint.denominator * varied.denominator))) grounds each_held in
       let regrouped : unit * (over * (adjoint.denominator * varied.denominator)) ≡ unit * over * (adjoint.denominator * varied.denominator) = omega arith in
-      let all = subst (λ (n : ℕ). Encloses (sum_of low grounds) (sum_of high grounds) (all_stray_power standing varied adjoint) n) regrouped sum in
-      joined adjoint.denominator reference.denominator varied.denominator (unit * over)
-      (current_by_weights standing weights varied) (current_by_weights standing weights reference) (all_stray_power standing varied adjoint)
-      own.low own.high _ _ adjoins.denominator_above_0 refers.denominator_above_0
-      (off_by (pos adjoint.denominator) (pos reference.denominator) (pos varied.denominator) (current_by_weights standing weights varied) (current_by_weights standing weights reference)
-      (current_by_weights standing volts adjoint) (all_stray_power standing varied adjoint)
-      (reciprocal nodes standing within ohm volts weights varied adjoint quiet light (varied_keeps standing ranges volts varied varies) adjoins)
-      (reciprocal_alone nodes standing within ohm volts weights reference adjoint quiet light refers adjoins))
-      own_holds all
+      subst (λ (n : ℕ). Encloses (sum_of low grounds) (sum_of high grounds) (all_stray_power standing varied adjoint) n) regrouped sum
+
+pub enclosed : (nodes : ℕ) (standing : List Placed) → AllByRecursion (λ p. IsElementWithin nodes p.1) standing →
+    (ranges : Ranges) (ohm : Element → ℕ) (volts weights : ℕ → ℤ) (reference varied adjoint : Solution) (over unit : ℕ) (products : Placed → Ends) →
+    HaveNoGroundVolts standing volts → HaveNoGroundVolts standing weights → AreInRanges ranges ohm standing → 0 < unit →
+    SolvesWith standing ohm volts reference → IsVaried standing ranges volts varied → SolvesWith standing ohm weights adjoint →
+    HoldProducts standing over products varied adjoint →
+    (own : Ends) → Encloses own.low own.high (current_by_weights standing weights reference) (unit * over * reference.denominator) →
+    Encloses (enclosure_of standing ranges ohm unit products own).low (enclosure_of standing ranges ohm unit products own).high
+    (current_by_weights standing weights varied) (unit * over * varied.denominator)
+enclosed nodes standing within ranges ohm volts weights reference varied adjoint over unit products quiet light inside some_unit refers varies adjoins holds own own_holds =
+    joined adjoint.denominator reference.denominator varied.denominator (unit * over)
+    (current_by_weights standing weights varied) (current_by_weights standing weights reference) (all_stray_power standing varied adjoint)
+    own.low own.high _ _ adjoins.denominator_above_0 refers.denominator_above_0
+    (off_by (pos adjoint.denominator) (pos reference.denominator) (pos varied.denominator) (current_by_weights standing weights varied) (current_by_weights standing weights reference)
+    (current_by_weights standing volts adjoint) (all_stray_power standing varied adjoint)
+    (reciprocal nodes standing within ohm volts weights varied adjoint quiet light (varied_keeps standing ranges volts varied varies) adjoins)
+    (reciprocal_alone nodes standing within ohm volts weights reference adjoint quiet light refers adjoins))
+    own_holds
+    (strays_held nodes standing within ranges ohm weights varied adjoint over unit products light inside some_unit
+    (recursion_from_All (λ p. is_ground p.1 ≡ true → IsGroundWithin ranges varied p) standing varies.grounds) adjoins holds)

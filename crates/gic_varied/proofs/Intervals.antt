@@ -55,7 +55,7 @@ ends_turned : (v x d u : ℕ) (a : ℤ) → pos v *ℤ (pos d *ℤ (a *ℤ pos (
 ends_turned v x d u a = same_in _ _ (simp (up-*ℤ, down-*ℤ) (omega arith))
 
 -- over plain numbers: below by at most a lift
-lower_end : (d x v u : ℕ) (a b p q r : ℤ) → 0 < d → 0 < x → (pos v *ℤ (pos x *ℤ p -ℤ pos d *ℤ q)) ≤ℤ (pos (d * x) *ℤ r) →
+pub lower_end : (d x v u : ℕ) (a b p q r : ℤ) → 0 < d → 0 < x → (pos v *ℤ (pos x *ℤ p -ℤ pos d *ℤ q)) ≤ℤ (pos (d * x) *ℤ r) →
     (a *ℤ pos (u * d)) ≤ℤ p → q ≤ℤ (b *ℤ pos (u * x)) → ((a -ℤ b) *ℤ pos (u * v)) ≤ℤ r
 lower_end d x v u a b p q r some_d some_x lowered at_least at_most =
     let first = *ℤ-≤ℤ x (a *ℤ pos (u * d)) p at_least in
@@ -71,7 +71,7 @@ lower_end d x v u a b p q r some_d some_x lowered at_least at_most =
     omega (arith, linear)
 
 -- above by at most a lift
-upper_end : (d x v u : ℕ) (a b p q r : ℤ) → 0 < d → 0 < x → (pos (d * x) *ℤ r) ≤ℤ (pos v *ℤ (pos x *ℤ p +ℤ pos d *ℤ q)) →
+pub upper_end : (d x v u : ℕ) (a b p q r : ℤ) → 0 < d → 0 < x → (pos (d * x) *ℤ r) ≤ℤ (pos v *ℤ (pos x *ℤ p +ℤ pos d *ℤ q)) →
     p ≤ℤ (a *ℤ pos (u * d)) → q ≤ℤ (b *ℤ pos (u * x)) → r ≤ℤ ((a +ℤ b) *ℤ pos (u * v))
 upper_end d x v u a b p q r some_d some_x raised at_most also =
     let first = *ℤ-≤ℤ x p (a *ℤ pos (u * d)) at_most in
@@ -125,7 +125,7 @@ minus_minus z = omega (arith, linear)
 minus_not_above : (q : ℤ) → pos 0 ≤ℤ q → neg_ℤ q ≤ℤ pos 0
 minus_not_above q h = omega (arith, linear)
 
-nothing_least : (l m d : ℕ) (p q : ℤ) → pos 0 ≤ℤ q → (pos m *ℤ ((pos l -ℤ pos l) *ℤ p)) ≤ℤ (pos (d * l * l) *ℤ q)
+pub nothing_least : (l m d : ℕ) (p q : ℤ) → pos 0 ≤ℤ q → (pos m *ℤ ((pos l -ℤ pos l) *ℤ p)) ≤ℤ (pos (d * l * l) *ℤ q)
 nothing_least l m d p q h =
     let none : pos l -ℤ pos l ≡ pos 0 = omega (arith, linear) in
     let inner : (pos l -ℤ pos l) *ℤ p ≡ pos 0 = ap (λ z. z *ℤ p) none ∙ *ℤ_comm (pos 0) p ∙ *ℤ-zero p in
@@ -157,14 +157,14 @@ turned_in l m p =
     ap (λ y. y *ℤ p) minus ∙ *ℤ_comm (neg_ℤ z) p ∙ *ℤ-neg_ℤ p z ∙ ap neg_ℤ (*ℤ_comm p z) ∙ sym (*ℤ-neg_ℤ z p)
 
 -- over plain numbers: what makes up towards the least resistance, times the greatest
-makes_up_most : (l m d : ℕ) (p q : ℤ) → ((pos m -ℤ pos l) *ℤ neg_ℤ p) ≤ℤ (pos (d * l) *ℤ q) → (pos m *ℤ ((pos l -ℤ pos m) *ℤ p)) ≤ℤ (pos (d * m * l) *ℤ q)
+pub makes_up_most : (l m d : ℕ) (p q : ℤ) → ((pos m -ℤ pos l) *ℤ neg_ℤ p) ≤ℤ (pos (d * l) *ℤ q) → (pos m *ℤ ((pos l -ℤ pos m) *ℤ p)) ≤ℤ (pos (d * m * l) *ℤ q)
 makes_up_most l m d p q above =
     let turned = ap (λ z. pos m *ℤ z) (turned_in l m p) in
     let times = *ℤ-≤ℤ m ((pos m -ℤ pos l) *ℤ neg_ℤ p) (pos (d * l) *ℤ q) above in
     let regroup : pos m *ℤ (pos (d * l) *ℤ q) ≡ pos (d * m * l) *ℤ q = same_in _ _ (simp (up-*ℤ, down-*ℤ) (omega arith)) in
     omega (arith, linear)
 
-nothing_most : (m d : ℕ) (p q : ℤ) → pos 0 ≤ℤ q → ((pos m -ℤ pos m) *ℤ p) ≤ℤ (pos (d * m) *ℤ q)
+pub nothing_most : (m d : ℕ) (p q : ℤ) → pos 0 ≤ℤ q → ((pos m -ℤ pos m) *ℤ p) ≤ℤ (pos (d * m) *ℤ q)
 nothing_most m d p q h =
     let none : pos m -ℤ pos m ≡ pos 0 = omega (arith, linear) in
     let left : (pos m -ℤ pos m) *ℤ p ≡ pos 0 = ap (λ z. z *ℤ p) none ∙ *ℤ_comm (pos 0) p ∙ *ℤ-zero p in

@@ -26,6 +26,13 @@ pub mod LiftsCompared
 pub mod NearProducts
 pub mod NearParts
 pub mod NearEnclosure
+pub mod FlatLifts
+pub mod GreatestPotentials
+pub mod Fractions
+pub mod Shared
+pub mod AdjointEnclosed
+pub mod RaisingParts
+pub mod WorkedPotentials
 pub mod LiftReach
 pub mod PotentialReach
 pub mod SumsAndSizes

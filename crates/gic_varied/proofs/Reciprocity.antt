@@ -29,7 +29,7 @@ cancel w a b some same =
     omega (arith, linear)
 
 -- over plain numbers: by Ohm's law of both, each current over what drives the other is the same
-crossed : (w : ℕ) (r c z a b : ℤ) → 0 < w → r *ℤ c ≡ pos w *ℤ a → r *ℤ z ≡ pos w *ℤ b → c *ℤ b ≡ z *ℤ a
+pub crossed : (w : ℕ) (r c z a b : ℤ) → 0 < w → r *ℤ c ≡ pos w *ℤ a → r *ℤ z ≡ pos w *ℤ b → c *ℤ b ≡ z *ℤ a
 crossed w r c z a b some one other =
     cancel w (c *ℤ b) (z *ℤ a) some
     (*ℤ_left_comm (pos w) c b ∙ ap (λ x. c *ℤ x) (sym other) ∙ *ℤ_left_comm c r z ∙ ap (λ x. r *ℤ x) (*ℤ_comm c z) ∙ *ℤ_left_comm r z c ∙ ap (λ x. z *ℤ x) one ∙ *ℤ_left_comm z (pos w) a)
@@ -74,9 +74,9 @@ solution_keeps standing ohm volts s h = record {
 }
 
 module _ (nodes : ℕ) (standing : List Placed) (within : AllByRecursion (λ p. IsElementWithin nodes p.1) standing)
-    (ohm : Element → ℕ) (volts weights : ℕ → ℤ) (varied adjoint : Solution)
+    (volts weights : ℕ → ℤ) (varied adjoint : Solution)
     (quiet : HaveNoGroundVolts standing volts) (light : HaveNoGroundVolts standing weights)
-    (keeps : KeepsLaws standing volts varied) (solves : SolvesWith standing ohm weights adjoint) where
+    (keeps : KeepsLaws standing volts varied) (keeps_too : KeepsLaws standing weights adjoint) where
   abbrev dy : ℤ
   dy = pos adjoint.denominator
 
@@ -86,7 +86,7 @@ module _ (nodes : ℕ) (standing : List Placed) (within : AllByRecursion (λ p. 
   -- one element
   one_element : (p : Placed) → IsElementWithin nodes p.1 →
       (is_ground p.1 ≡ true → volts p.0 ≡ pos 0) → (is_ground p.1 ≡ true → weights p.0 ≡ pos 0) →
-      (is_ground p.1 ≡ false → IsOhm volts varied p) → IsOhm weights adjoint (placed_with ohm p) →
+      (is_ground p.1 ≡ false → IsOhm volts varied p) → (is_ground p.1 ≡ false → IsOhm weights adjoint p) →
       dy *ℤ (weights p.0 *ℤ varied.current p.0) +ℤ varied.current p.0 *ℤ along adjoint.potential p.1 ≡
       (d *ℤ (volts p.0 *ℤ adjoint.current p.0) +ℤ adjoint.current p.0 *ℤ along varied.potential p.1) +ℤ if_kept (is_ground p.1) (stray_power varied adjoint p)
   one_element p h no_volts no_weight by_ohm by_adjoint = by (is_ground p.1) refl
@@ -104,18 +104,18 @@ module _ (nodes : ℕ) (standing : List Placed) (within : AllByRecursion (λ p. 
       by false is =
           let some = some_times nodes p h in
           other_element (p.1.times * 1000000) (pos p.1.micro_ohm) (varied.current p.0) (adjoint.current p.0) (along adjoint.potential p.1) (along varied.potential p.1) dy d (weights p.0) (volts p.0)
-          (omega arith) (by_ohm is) (own_ohm ohm weights adjoint p is by_adjoint)
+          (omega arith) (by_ohm is) (by_adjoint is)
 
-  pub reciprocal : dy *ℤ current_by_weights standing weights varied ≡ d *ℤ current_by_weights standing volts adjoint +ℤ all_stray_power standing varied adjoint
-  reciprocal =
+  pub reciprocal_both : dy *ℤ current_by_weights standing weights varied ≡ d *ℤ current_by_weights standing volts adjoint +ℤ all_stray_power standing varied adjoint
+  reciprocal_both =
       let Quiet : Placed → Type 0 = λ p. is_ground p.1 ≡ true → volts p.0 ≡ pos 0 in
       let Light : Placed → Type 0 = λ p. is_ground p.1 ≡ true → weights p.0 ≡ pos 0 in
       let Ohm : Placed → Type 0 = λ p. is_ground p.1 ≡ false → IsOhm volts varied p in
-      let Adjoint : Placed → Type 0 = λ p. IsOhm weights adjoint (placed_with ohm p) in
+      let Adjoint : Placed → Type 0 = λ p. is_ground p.1 ≡ false → IsOhm weights adjoint p in
       let Within : Placed → Type 0 = λ p. IsElementWithin nodes p.1 in
       let facts = both (λ p. (Within p × Quiet p) × Light p) (λ p. Ohm p × Adjoint p) standing
       (both (λ p. Within p × Quiet p) Light standing (both Within Quiet standing within (recursion_from_All Quiet standing quiet)) (recursion_from_All Light standing light))
-      (both Ohm Adjoint standing keeps.ohm solves.by_ohm) in
+      (both Ohm Adjoint standing keeps.ohm keeps_too.ohm) in
       let in_u : Placed → ℤ = λ p. weights p.0 *ℤ varied.current p.0 in
       let in_v : Placed → ℤ = λ p. volts p.0 *ℤ adjoint.current p.0 in
       let over_y : Placed → ℤ = λ p. varied.current p.0 *ℤ along adjoint.potential p.1 in
@@ -130,9 +130,16 @@ module _ (nodes : ℕ) (standing : List Placed) (within : AllByRecursion (λ p. 
       let right_split = sum_of-+ℤ (λ p. d *ℤ in_v p) over_p standing in
       let right_out = sum_of-*ℤ d in_v standing in
       let no_y = carries_nothing nodes standing within varied.current keeps.kirchhoff adjoint.potential in
-      let no_p = carries_nothing nodes standing within adjoint.current solves.kirchhoff varied.potential in
+      let no_p = carries_nothing nodes standing within adjoint.current keeps_too.kirchhoff varied.potential in
       let gathered = sum_of-filter (stray_power varied adjoint) (λ p. is_ground p.1) standing in
       omega (arith, linear)
+
+-- with a solution of a network that is named by its grounds
+pub reciprocal : (nodes : ℕ) (standing : List Placed) → AllByRecursion (λ p. IsElementWithin nodes p.1) standing → (ohm : Element → ℕ) (volts weights : ℕ → ℤ) (varied adjoint : Solution) →
+    HaveNoGroundVolts standing volts → HaveNoGroundVolts standing weights → KeepsLaws standing volts varied → SolvesWith standing ohm weights adjoint →
+    pos adjoint.denominator *ℤ current_by_weights standing weights varied ≡ pos varied.denominator *ℤ current_by_weights standing volts adjoint +ℤ all_stray_power standing varied adjoint
+reciprocal nodes standing within ohm volts weights varied adjoint quiet light keeps solves =
+    reciprocal_both nodes standing within volts weights varied adjoint quiet light keeps (solution_keeps standing ohm weights adjoint solves)
 
 module _ (nodes : ℕ) (standing : List Placed) (within : AllByRecursion (λ p. IsElementWithin nodes p.1) standing)
     (ohm : Element → ℕ) (volts weights : ℕ → ℤ) (reference adjoint : Solution)

@@ -1,5 +1,5 @@
 -- Ohm's law within a range is that of some resistance of the range, whole or not.
-use Rattle.std.proofs.Common.{◌≡◌, ℕ, zero, suc, ◌*◌, ◌≤◌, inl, inr, ◌↔◌, ℤ, pos, negsuc, ◌*ℤ◌, neg_ℤ, ◌≤ℤ◌, arith, ap, sym, ◌∙◌}
+use Rattle.std.proofs.Common.{◌≡◌, ℕ, zero, suc, ◌*◌, ◌≤◌, inl, inr, ◌↔◌, ℤ, pos, negsuc, ◌*ℤ◌, neg_ℤ, ◌≤ℤ◌, unsigned_abs, arith, ap, sym, ◌∙◌}
 use lib.IntN.{*ℤ_comm, *ℤ-zero}
 use Rattle.std.proofs.lemmas.Int.{ints}
 use Rattle.std.proofs.Math.Nat.{mul-le-mul_right}
@@ -9,7 +9,7 @@ use Rattle.gic_varied.specs.Varied.{IsOhmWithin, IsFractionOf, IsOhmOf, HasResis
 use Rattle.gic_varied.proofs.Within.{turned_order}
 
 -- of a fraction of the range
-within_fraction : (range : Range) (a b : ℕ) (drive current : ℤ) → IsFractionOf range a b → IsOhmOf a b drive current → IsOhmWithin range drive current
+pub within_fraction : (range : Range) (a b : ℕ) (drive current : ℤ) → IsFractionOf range a b → IsOhmOf a b drive current → IsOhmWithin range drive current
 within_fraction range a b drive (pos n) inside ohm =
     let low : range.least * b * n ≤ a * n = mul-le-mul_right n inside.at_least in
     let high : a * n ≤ range.most * b * n = mul-le-mul_right n inside.at_most in
@@ -31,35 +31,41 @@ within_fraction range a b drive (negsuc n) inside ohm =
 minus_product : (k n : ℕ) → pos k *ℤ negsuc n ≡ neg_ℤ (pos (k * suc n))
 minus_product k n = *ℤ-neg_ℤ (pos k) (pos (suc n))
 
--- of what is within a range: the drive over the current
-some_resistance : (range : Range) (drive current : ℤ) → range.least ≤ range.most → IsOhmWithin range drive current → HasResistance range drive current
-some_resistance range drive (pos zero) order (inl h) = record {
-  numerator = range.least;
-  denominator = 1;
+-- of what is within a range: the drive over the current, and the least resistance where there is no current
+pub record Fraction : Type 0 where
+  pub numerator : ℕ
+  pub denominator : ℕ
+
+abbrev pub fraction_of : Range → (drive current : ℤ) → Fraction
+fraction_of range drive (pos zero) = record { numerator = range.least; denominator = 1 }
+fraction_of range drive (pos (suc n)) = record { numerator = unsigned_abs drive; denominator = suc n }
+fraction_of range drive (negsuc n) = record { numerator = unsigned_abs drive; denominator = suc n }
+
+-- it is a resistance of the range with Ohm's law
+pub record IsFraction (range : Range) (drive current : ℤ) (f : Fraction) : Type 0 where
+  pub inside : IsFractionOf range f.numerator f.denominator
+  pub ohm : IsOhmOf f.numerator f.denominator drive current
+
+pub is_fraction : (range : Range) (drive current : ℤ) → range.least ≤ range.most → IsOhmWithin range drive current → IsFraction range drive current (fraction_of range drive current)
+is_fraction range drive (pos zero) order (inl h) = record {
   inside = record { some = omega arith; at_least = omega arith; at_most = omega arith };
   ohm = omega (arith, ints, h.1, h.2);
 }
-some_resistance range drive (pos zero) order (inr h) = record {
-  numerator = range.least;
-  denominator = 1;
+is_fraction range drive (pos zero) order (inr h) = record {
   inside = record { some = omega arith; at_least = omega arith; at_most = omega arith };
   ohm = omega (arith, ints, h.1, h.2);
 }
-some_resistance range (pos k) (pos (suc n)) order (inl h) = record {
-  numerator = k;
-  denominator = suc n;
+is_fraction range (pos k) (pos (suc n)) order (inl h) = record {
   inside = record { some = omega arith; at_least = omega (arith, ints, h.1); at_most = omega (arith, ints, h.2) };
   ohm = *ℤ_comm (pos k) (pos (suc n));
 }
-some_resistance range (negsuc k) (pos (suc n)) order (inl h) = absurd (omega (arith, ints, h.1))
-some_resistance range drive (pos (suc n)) order (inr h) = absurd (omega (arith, ints, h.0))
-some_resistance range drive (negsuc n) order (inl h) = absurd (omega (arith, ints, h.0))
-some_resistance range (negsuc k) (negsuc n) order (inr h) =
+is_fraction range (negsuc k) (pos (suc n)) order (inl h) = absurd (omega (arith, ints, h.1))
+is_fraction range drive (pos (suc n)) order (inr h) = absurd (omega (arith, ints, h.0))
+is_fraction range drive (negsuc n) order (inl h) = absurd (omega (arith, ints, h.0))
+is_fraction range (negsuc k) (negsuc n) order (inr h) =
     let most = minus_product range.most n in
     let least = minus_product range.least n in
     record {
-      numerator = suc k;
-      denominator = suc n;
       inside = record { some = omega arith; at_least = omega (arith, linear, h.2); at_most = omega (arith, linear, h.1) };
       ohm =
           let one = minus_product (suc k) n in
@@ -67,19 +73,24 @@ some_resistance range (negsuc k) (negsuc n) order (inr h) =
           let same : suc k * suc n ≡ suc n * suc k = omega arith in
           one ∙ ap (λ (z : ℕ). neg_ℤ (pos z)) same ∙ sym other;
     }
-some_resistance range (pos k) (negsuc n) order (inr h) =
+is_fraction range (pos k) (negsuc n) order (inr h) =
     let least = minus_product range.least n in
     let none : k ≡ 0 = omega (arith, linear, h.2) in
     record {
-      numerator = 0;
-      denominator = suc n;
       inside = record { some = omega arith; at_least = omega (arith, linear, h.2); at_most = omega arith };
       ohm =
-          let one = minus_product 0 n in
-          let other = ap (λ (z : ℕ). pos (suc n) *ℤ pos z) none in
+          let one = minus_product k n in
+          let zero_left = ap (λ (z : ℕ). neg_ℤ (pos (z * suc n))) none in
+          let other = ap (λ z. pos (suc n) *ℤ pos z) none in
           let nothing = *ℤ-zero (pos (suc n)) in
           omega (arith, linear);
     }
+
+some_resistance : (range : Range) (drive current : ℤ) → range.least ≤ range.most → IsOhmWithin range drive current → HasResistance range drive current
+some_resistance range drive current order h =
+    let f = fraction_of range drive current in
+    let is = is_fraction range drive current order h in
+    record { numerator = f.numerator; denominator = f.denominator; inside = is.inside; ohm = is.ohm }
 
 pub within_is_some : (range : Range) (drive current : ℤ) → range.least ≤ range.most → IsOhmWithin range drive current ↔ HasResistance range drive current
 within_is_some range drive current order = (

@@ -12,7 +12,12 @@ pub mod EachGround
 pub mod Corners
 pub mod Certified
 pub mod Bounds
+pub mod PotentialRanges
+pub mod OneNetwork
+pub mod AdjointForm
+pub mod Parts
 pub mod Near
 pub mod Reach
 pub mod Sizes
 pub mod WorkedGrounds
+pub mod WorkedRanges

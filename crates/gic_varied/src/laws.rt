@@ -1,4 +1,5 @@
 //! Theorems over the definitions, each the contract of a function that does nothing.
+ghost use Rattle.std.specs.Prelude.{◌≡◌, pos, neg_ℤ};
 ghost use Rattle.gic_model.specs.WorkedLoop.{loop_standing};
 ghost use Rattle.gic_varied.specs.Varied.{IsVaried, WithinIsSomeResistance};
 ghost use Rattle.gic_varied.specs.VariedLaws.{RangesHoldTolerances, OwnGroundsAreInRanges, SolutionsAreVaried, OwnSolutionsAreVaried};
@@ -14,9 +15,20 @@ ghost use Rattle.gic_varied.specs.GroundLaws.{RangesStayWithinLimits};
 ghost use Rattle.gic_varied.specs.Corners.{CornersAreOfRanges};
 ghost use Rattle.gic_varied.specs.EachGround.{StandingGroundsAreInRanges, AnyGroundsStayWithinLimits, NetworksAreEarthedAlike};
 ghost use Rattle.gic_varied.specs.Lifts.{PotentialsAreRaisedAtMost, PotentialsAreLoweredAtMost};
+ghost use Rattle.gic_varied.specs.PotentialRanges.{RaisingGroundsGiveGreatestPotentials, LoweringGroundsGiveLeastPotentials};
+ghost use Rattle.gic_varied.specs.PotentialRanges.{CertifiedCornersRaise, CertifiedCornersLower};
+ghost use Rattle.gic_varied.specs.OneNetwork.{VariedNetworksAreSolved};
+ghost use Rattle.gic_varied.specs.AdjointForm.{VariedCurrentsAreOffByAdjointPower, AdjointEnclosuresHold};
+ghost use Rattle.gic_varied.specs.Parts.{RaisingPartsHaveTheGreatest, LoweringPartsHaveTheLeast};
 ghost use Rattle.gic_varied.specs.Strays.{StrayPowersAreBounded};
 ghost use Rattle.gic_varied.specs.Reciprocal.{VariedCurrentsAreReciprocal, CurrentsAreReciprocal, VariedCurrentsAreOffByStrayPower};
 ghost use Rattle.gic_varied.specs.Reciprocal.{ListedWeightsCount};
+ghost use Rattle.gic_varied.specs.Corners.{corner_ohm};
+ghost use Rattle.gic_varied.specs.PotentialRanges.{AreRaising, AreLowering};
+ghost use Rattle.gic_varied.specs.OneNetwork.{AreOfOneNetwork};
+ghost use Rattle.gic_varied.specs.Reciprocal.{all_stray_power};
+ghost use Rattle.gic_varied.specs.Parts.{AreRaisingParts};
+ghost use Rattle.gic_varied.specs.WorkedRanges.{most_at_a, most_at_b, highest_solution, lowest_solution, IsLoopSolution, LoopPotentialsAreInRange, both_least};
 ghost use Rattle.gic_varied.specs.WorkedGrounds.{loop_ranges, line_of_800_volts, weak_solution, strong_solution, LoopCurrentsAreBounded};
 
 /// A loop of two grounds worked by hand at 20 per cent: both corners are varied solutions, and the current of every
@@ -25,6 +37,19 @@ pub fn worked_grounds_law()
     ensures weak { IsVaried loop_standing loop_ranges line_of_800_volts weak_solution }
     ensures strong { IsVaried loop_standing loop_ranges line_of_800_volts strong_solution }
     ensures bounds { LoopCurrentsAreBounded }
+{}
+
+/// The ranges of that loop's potentials by hand: they are those of two corners. By the adjoint form 2000/9 amperes are 2000/7 less
+/// what the stray power says, and with both grounds turned to their least resistances 2000/7 amperes flow.
+pub fn worked_ranges_law()
+    ensures highest { IsLoopSolution most_at_b highest_solution }
+    ensures raising { AreRaising loop_standing loop_ranges (corner_ohm loop_ranges most_at_b) highest_solution.potential }
+    ensures lowest { IsLoopSolution most_at_a lowest_solution }
+    ensures lowering { AreLowering loop_standing loop_ranges (corner_ohm loop_ranges most_at_a) lowest_solution.potential }
+    ensures potentials { LoopPotentialsAreInRange }
+    ensures power { all_stray_power loop_standing weak_solution strong_solution ≡ neg_ℤ (pos 3200000000000000000000000) }
+    ensures parts { AreRaisingParts loop_standing loop_ranges both_least line_of_800_volts line_of_800_volts }
+    ensures turned { IsVaried loop_standing both_least line_of_800_volts strong_solution }
 {}
 
 /// The range of a resistance holds every resistance within the tolerance, whole or not, that a case can have; in a
@@ -126,4 +151,36 @@ pub fn reach_law()
 /// What the voltages of the field and the weights add up to gives sizes, by which an enclosure's slack is known.
 pub fn sizes_law()
     ensures { SumsGiveSizes }
+{}
+
+/// The range of all potentials is that of two networks: where each ground raises its node the most, no varied potential is
+/// above that network's, at any live node; where each lowers it the most, none is below. At a corner whose certain intervals
+/// leave signs open at the grounds, a varied potential is beyond them by at most 20 times what they leave open.
+pub fn greatest_potentials_law()
+    ensures greatest { RaisingGroundsGiveGreatestPotentials }
+    ensures least { LoweringGroundsGiveLeastPotentials }
+    ensures certified_above { CertifiedCornersRaise }
+    ensures certified_below { CertifiedCornersLower }
+{}
+
+/// The network of a varied solution, which has one resistance of its range at each ground, whole or not, has a solution for any
+/// other voltages too.
+pub fn one_network_law()
+    ensures { VariedNetworksAreSolved }
+{}
+
+/// The adjoint form of reciprocity, with the two networks in each other's place: a varied weighted current is the reference's,
+/// and the stray power of the reference's own potentials and the varied network's adjoint ones. The enclosure that ranges of
+/// those adjoint potentials give holds the weighted current of every varied solution.
+pub fn adjoint_form_law()
+    ensures off { VariedCurrentsAreOffByAdjointPower }
+    ensures holds { AdjointEnclosuresHold }
+{}
+
+/// Turning grounds: where the adjoint potential times the potential at a ground has one sign in all varied networks, be they two,
+/// one end of the ground's range has the greatest weighted current, and the other the least. So these are found among the varied
+/// solutions of parts of the ranges, in one step for any number of grounds.
+pub fn turning_law()
+    ensures greatest { RaisingPartsHaveTheGreatest }
+    ensures least { LoweringPartsHaveTheLeast }
 {}
