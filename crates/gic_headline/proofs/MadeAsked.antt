@@ -11,7 +11,7 @@ use Rattle.gic_ask.specs.declared.fault.File.TheVariants as file
 use Rattle.gic_ask.specs.declared.fault.InputRefusal.TheVariants as refusals
 use Rattle.gic_inputs.specs.declared.inputs.Inputs.{Inputs}
 use Rattle.gic_ask.specs.declared.request.Asked.{Asked}
-use Rattle.gic_ask.specs.declared.request.Asked.TheVariants.{Volts, List as ListAsked, Check, Field, Screen, Certify, Outage, Make, Review, Robust}
+use Rattle.gic_ask.specs.declared.request.Asked.TheVariants.{Network, Make, Robust}
 use Rattle.gic_study.specs.Answers.{Call, AsksFor}
 use Rattle.gic_study.proofs.Accepting.{Holds, Any, then_holds, anyway, reading_holds, made_holds}
 
@@ -26,13 +26,7 @@ module _ (contents : Contents) where
   none_made o make h = made_holds Any IsMadeInRange o make (anyway o) (λ inputs any. h inputs)
 
   asking_in_range : (r : Request) → CanBeMade r → Holds IsMadeInRange (asking r contents)
-  asking_in_range (request.Volts r) can = none_made _ Volts (λ inputs. tt)
-  asking_in_range (request.List case) can = none_made _ ListAsked (λ inputs. tt)
-  asking_in_range (request.Check r) can = none_made _ Check (λ inputs. tt)
-  asking_in_range (request.Field r) can = none_made _ Field (λ inputs. tt)
-  asking_in_range (request.Screen r) can = none_made _ Screen (λ inputs. tt)
-  asking_in_range (request.Certify r) can = none_made _ Certify (λ inputs. tt)
-  asking_in_range (request.Outage r) can = none_made _ Outage (λ inputs. tt)
+  asking_in_range (request.Network m r) can = none_made _ (Network m) (λ inputs. tt)
   asking_in_range (request.Study r) can =
       then_holds Any IsMadeInRange (reading_case (contents file.Case)) (λ lists. asking_study r lists contents) (anyway (reading_case (contents file.Case)))
       (λ lists any. made_holds Any IsMadeInRange _ (study_given r) (anyway (reading_over r.switch _ lists contents)) (λ inputs other. tt))
@@ -44,7 +38,6 @@ module _ (contents : Contents) where
       then_holds Any IsMadeInRange (reading_case (contents file.Case)) (λ lists. asking_series r lists contents) (anyway (reading_case (contents file.Case)))
       (λ lists any. then_holds Any IsMadeInRange (reading (λ refusal. refusal) (transformer_asked lists r.transformer)) _ (anyway (reading (λ refusal. refusal) (transformer_asked lists r.transformer)))
       (λ place other. made_holds Any IsMadeInRange _ (series_given r place) (anyway (reading_over r.switch _ lists contents)) (λ inputs more. tt)))
-  asking_in_range (request.Review case) can = none_made _ Review (λ inputs. tt)
   asking_in_range (request.Robust r) can = none_made _ Robust (λ inputs. tt)
 
 outcome_in_range : MadeInRange → (words : List (List ℕ)) (contents : Contents) → Holds IsMadeInRange (outcome words contents)

@@ -1,5 +1,5 @@
 -- The case of what is asked for is sound.
-use Rattle.std.proofs.Common.{◌≡◌, ℕ, List, Option, None, Result, Ok, Err, refl, subst, arith}
+use Rattle.std.proofs.Common.{◌≡◌, ℕ, List, Option, Result, Ok, Err, refl, subst, arith}
 use Rattle.std.specs.Prelude.{IfOk}
 use Rattle.gic_case.specs.Lists.{Lists}
 use Rattle.gic_case.specs.Sound.{IsSound}
@@ -19,7 +19,7 @@ use Rattle.gic_inputs.specs.declared.inputs.Inputs.{Inputs}
 use Rattle.gic_inputs.specs.declared.inputs.StormInputs.{StormInputs}
 use Rattle.gic_criteria.specs.declared.asked.Criteria.{Criteria}
 use Rattle.gic_ask.specs.declared.request.Asked.{Asked}
-use Rattle.gic_ask.specs.declared.request.Asked.TheVariants.{Volts, List as ListAsked, Check, Field, Screen, Certify, Outage, Study, Make, Recheck, Series, Review, Robust}
+use Rattle.gic_ask.specs.declared.request.Asked.TheVariants.{Network, Robust}
 use Rattle.gic_study.specs.Laws.{case_asked, AskedCasesAreSound}
 use Rattle.gic_study.proofs.Accepting.{Holds, Any, then_holds, anyway, reading_holds, made_holds}
 
@@ -60,13 +60,7 @@ module _ (accepted : AcceptedCasesAreSound) (made : MadeCasesAreSound) (contents
   over_network switch question make h = made_holds IsOverSound IsAskedSound (reading_network switch question contents) make (network_sound switch question) h
 
   asking_sound : (r : Request) → CanBeMade r → Holds IsAskedSound (asking r contents)
-  asking_sound (request.Volts r) can = over_network None _ Volts (λ inputs sound. sound)
-  asking_sound (request.List case) can = over_network None _ ListAsked (λ inputs sound. sound)
-  asking_sound (request.Check r) can = over_network r.switch _ Check (λ inputs sound. sound)
-  asking_sound (request.Field r) can = over_network r.switch _ Field (λ inputs sound. sound)
-  asking_sound (request.Screen r) can = over_network r.switch _ Screen (λ inputs sound. sound)
-  asking_sound (request.Certify r) can = over_network r.switch _ Certify (λ inputs sound. sound)
-  asking_sound (request.Outage r) can = over_network r.switch _ Outage (λ inputs sound. sound)
+  asking_sound (request.Network m r) can = over_network r.switch _ (Network m) (λ inputs sound. sound)
   asking_sound (request.Study r) can =
       then_holds IsSound IsAskedSound (reading_case (contents file.Case)) (λ lists. asking_study r lists contents) case_sound
       (λ lists sound. made_holds IsStormOverSound IsAskedSound _ (study_given r) (over_sound r.switch _ lists sound) (λ inputs is_sound. is_sound))
@@ -79,7 +73,6 @@ module _ (accepted : AcceptedCasesAreSound) (made : MadeCasesAreSound) (contents
       then_holds IsSound IsAskedSound (reading_case (contents file.Case)) (λ lists. asking_series r lists contents) case_sound
       (λ lists sound. then_holds Any IsAskedSound (reading (λ refusal. refusal) (transformer_asked lists r.transformer)) _ (anyway (reading (λ refusal. refusal) (transformer_asked lists r.transformer)))
       (λ place any. made_holds IsStormOverSound IsAskedSound _ (series_given r place) (over_sound r.switch _ lists sound) (λ inputs is_sound. is_sound)))
-  asking_sound (request.Review case) can = over_network None _ Review (λ inputs sound. sound)
   asking_sound (request.Robust r) can = over_network r.switch _ Robust (λ inputs sound. sound)
 
 outcome_sound : MadeInRange → AcceptedCasesAreSound → MadeCasesAreSound → (words : List (List ℕ)) (contents : Contents) → Holds IsAskedSound (outcome words contents)

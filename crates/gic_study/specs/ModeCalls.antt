@@ -1,5 +1,11 @@
 -- What the calls of single modes say, in the words of the whole. No reader of the headline needs these.
-use Rattle.std.specs.Prelude.{◌≡◌, ◌≢◌, Ok, Err, Result}
+use Rattle.std.specs.Prelude.{◌≡◌, ◌≢◌, ℕ, List, Ok, Err, Result}
+use Rattle.gic_case.specs.Lists.{Lists}
+use Rattle.gic_model.specs.Sums.{Placed}
+use Rattle.gic_inputs.specs.declared.inputs.Inputs.{Inputs}
+use Rattle.gic_stand.specs.Needs.{Need}
+use Rattle.gic_stand.specs.Standing.{steps_of}
+use Rattle.gic_stand.specs.Serves.{Shown, Serves}
 use Rattle.gic_recheck.specs.declared.fault.RecheckFault.{RecheckFault}
 use Rattle.gic_recheck.specs.declared.fault.RecheckFault.TheVariants as recheck
 use Rattle.gic_recheck.specs.declared.fault.WorkspaceFault.{WorkspaceFault}
@@ -19,6 +25,11 @@ abbrev pub reported : Result (Unit {0}) ReportFault → Answer
 reported (Ok done) = Ok done
 reported (Err fault) = Err (Report fault)
 
+-- of one that takes memory for its workspace alone
+abbrev pub told : {E : Type 0} → Result (Result (Unit {0}) ReportFault) E → Answer
+told (Ok answer) = reported answer
+told (Err e) = Err (Memory Workspace)
+
 -- of `study`, whose monitors take memory for their texts
 abbrev pub studied : Result (Unit {0}) StudyFault → Answer
 studied (Ok done) = Ok done
@@ -36,7 +47,16 @@ rechecked (Ok done) = Ok done
 rechecked (Err (recheck.Report fault)) = Err (Report fault)
 rechecked (Err (recheck.Refused refusal)) = Err (Certificate refusal)
 
--- ---- memory
+-- ---- workspaces
+
+-- how the call of a mode ends that needs this of the steps of a case, where its workspace was made; nothing is written where it was not
+abbrev pub ServesMade : {E : Type 0} → Need → Lists → List (List Placed) → (IsRight : List ℕ → Type 0) → (before now : Shown) → Result (Result (Unit {0}) ReportFault) E → Type 0
+ServesMade need case steps IsRight before now (Ok answer) = Serves need case steps IsRight before now answer
+ServesMade need case steps IsRight before now (Err e) = now ≡ before
+
+-- over the network of a case, with all its switchings in force
+abbrev pub ServesOver : {Q E : Type 0} → Need → (IsRight : Inputs Q → List ℕ → Type 0) → Inputs Q → (before now : Shown) → Result (Result (Unit {0}) ReportFault) E → Type 0
+ServesOver need IsRight inputs = ServesMade need inputs.case (steps_of inputs) (IsRight inputs)
 
 -- out of memory is told for the workspace only where it wasn't made, and where it wasn't, this is told
 abbrev pub TellsMaking : {W E : Type 0} → (told : E → Fault) → Result W E → Answer → Type 0
