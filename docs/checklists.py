@@ -9,8 +9,8 @@ the network of a case, or all kinds.
 
 Without a word this checks the checklists *A new mode* and *A new kind of transformer*. A file that names all words of a
 group needs a line for a new one, so the checklist must name that file, or a folder above it. A file of a crate is named
-where the same numbered point names the crate. Files that a script makes (MADE) are left out. The last line is
-`N files, M faults`, and the status is 0 only where M is 0.
+where the same numbered point names the crate. Files that a script makes (MADE), what tests are given (GIVEN) and samples
+are left out. The last line is `N files, M faults`, and the status is 0 only where M is 0.
 """
 
 from __future__ import annotations
@@ -30,8 +30,9 @@ MODES = "crates/gic_words/src/mode.rt"
 KINDS = "crates/gic_case_reader/src/transformer.rt"
 # files that a script makes
 MADE = {"docs/CLAIM.txt", "docs/INDEX.md", "build/seconds.txt"}
-# folders whose files are what a test is given, or what it wants
-GIVEN = ("trials/referee/cases/",)
+# folders of what tests are given or want, and the endings of samples
+GIVEN = ("trials/referee/cases/", "crates/gic_examples/data/")
+SAMPLES = (".toml", ".csv")
 ROW = re.compile(r"mode: (?:Mode::Network\((NetworkMode::\w+)\)|(Mode::\w+)),\s+word: \"([\w-]+)\"")
 KIND = re.compile(r"\"([\w-]+)\" => Some\(KindWord::(\w+)\)")
 TOKEN = re.compile(r"`([^`\s]+)`")
@@ -91,11 +92,11 @@ def groups(top: Path) -> tuple[Group, Group]:
 
 
 def texts(top: Path) -> dict[str, str]:
-    """The text of each file, by its path, but those that a script makes and those that are given to tests."""
+    """The text of each file, by its path, without those that a script makes, those of tests and samples."""
     found = {}
     for path in files_below(top):
         name = path.as_posix()
-        if name in MADE or name.startswith(GIVEN):
+        if name in MADE or name.startswith(GIVEN) or name.endswith(SAMPLES):
             continue
         try:
             found[name] = (top / path).read_text()

@@ -16,6 +16,8 @@ use Rattle.gic_criteria.specs.declared.asked.RobustCriteria.{RobustCriteria}
 use Rattle.gic_criteria.specs.declared.asked.UniformField.{UniformField}
 use Rattle.gic_inputs.specs.declared.inputs.Inputs.{Inputs}
 use Rattle.gic_inputs.specs.declared.inputs.StormInputs.{StormInputs}
+use Rattle.gic_ask.specs.Network.{inputs_over}
+use Rattle.gic_ask.specs.declared.request.NetworkAsked.{NetworkAsked}
 use Rattle.gic_ask.specs.declared.request.Asked.{Asked}
 use Rattle.gic_ask.specs.declared.request.Asked.TheVariants.{Network, Study, Make, Recheck, Series, Robust}
 use Rattle.gic_words.specs.declared.mode.NetworkMode.{NetworkMode}
@@ -56,7 +58,7 @@ use Rattle.gic_laws.specs.Dwells.{IsTrueDwell}
 use Rattle.gic_laws.specs.Earthings.{IsTrueEarthing}
 use Rattle.gic_laws.specs.Losses.{AreTrueLosses}
 use Rattle.gic_laws.specs.Printed.{HasTrueLines}
-use Rattle.gic_study.specs.Modes.{Plans, with_question}
+use Rattle.gic_study.specs.Modes.{Plans}
 use Rattle.gic_headline.specs.Directions.{HasWorstDirection}
 use Rattle.gic_headline.specs.Grounds.{screened, AreGroundsOf, AreTrueWith}
 use Rattle.gic_headline.specs.Solved.{HasOneSolution, AreStepsSolved}
@@ -139,19 +141,19 @@ pub record IsTrueRecheck (inputs : Inputs (Unit {0})) (bytes text : List ℕ) : 
   pub solved : HasOneSolution (standing_of inputs.case inputs.switchings) (certificate_volts inputs.case report.certificate)
 
 -- one row a mode over the network of a case, each by what it has a use for: the field, the criteria, both or neither. The voltages, the elements and the findings of `volts`, `list` and `review` are exact, and speak of no solution
-abbrev pub IsTrueOver : NetworkMode → Inputs Question → (text : List ℕ) → Type 0
-IsTrueOver mode.Volts inputs = IsRightVolts (with_question inputs.question.field inputs)
-IsTrueOver mode.List inputs = IsRightList (with_question (tt {0}) inputs)
-IsTrueOver mode.Check inputs = IsTrueCheck (with_question (tt {0}) inputs)
-IsTrueOver mode.Field inputs = IsTrueField inputs
-IsTrueOver mode.Screen inputs = IsTrueScreen (with_question inputs.question.criteria inputs)
-IsTrueOver mode.Certify inputs = IsTrueCertify (with_question inputs.question.field inputs)
-IsTrueOver mode.Outage inputs = IsTrueOutage (with_question inputs.question.criteria inputs)
-IsTrueOver mode.Review inputs = IsRightReview (with_question (tt {0}) inputs)
+abbrev pub IsTrueOver : NetworkMode → NetworkAsked → (text : List ℕ) → Type 0
+IsTrueOver mode.Volts a = IsRightVolts (inputs_over a.question.field a)
+IsTrueOver mode.List a = IsRightList (inputs_over (tt {0}) a)
+IsTrueOver mode.Check a = IsTrueCheck (inputs_over (tt {0}) a)
+IsTrueOver mode.Field a = IsTrueField (inputs_over a.question a)
+IsTrueOver mode.Screen a = IsTrueScreen (inputs_over a.question.criteria a)
+IsTrueOver mode.Certify a = IsTrueCertify (inputs_over a.question.field a)
+IsTrueOver mode.Outage a = IsTrueOutage (inputs_over a.question.criteria a)
+IsTrueOver mode.Review a = IsRightReview (inputs_over (tt {0}) a)
 
 -- one row for these, and one for each other mode
 abbrev pub IsTrueReport : Plans → Asked → (text : List ℕ) → Type 0
-IsTrueReport plans (Network m inputs) = IsTrueOver m inputs
+IsTrueReport plans (Network m a) = IsTrueOver m a
 IsTrueReport plans (Study asked) = IsTrueStudy asked.inputs asked.detail plans
 IsTrueReport plans (Make r) = IsTrueMake r.seed r.size
 IsTrueReport plans (Recheck asked) = IsTrueRecheck asked.inputs asked.certificate

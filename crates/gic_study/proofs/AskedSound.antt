@@ -12,14 +12,14 @@ use Rattle.gic_words.specs.Requests.{request_of}
 use Rattle.gic_words.specs.declared.request.Request.{Request}
 use Rattle.gic_words.specs.declared.request.Request.TheVariants as request
 use Rattle.gic_ask.specs.Contents.{Contents}
-use Rattle.gic_ask.specs.Outcome.{Accepts, ◌>>=◌, reading, handing, reading_case, reading_storm, reading_switchings, reading_certificate, reading_inputs, reading_network, reading_after_storm, reading_over, transformer_asked, asking, asking_study, asking_recheck, asking_series, outcome, recheck_given, series_given, study_given}
+use Rattle.gic_ask.specs.Outcome.{Accepts, ◌>>=◌, reading, handing, reading_case, reading_storm, reading_switchings, reading_certificate, reading_inputs, reading_network, reading_after_storm, reading_over, transformer_asked, asking, asking_network, asking_study, asking_recheck, asking_series, outcome, network_given, recheck_given, series_given, study_given}
 use Rattle.gic_ask.specs.declared.fault.File.TheVariants as file
 use Rattle.gic_ask.specs.declared.fault.InputRefusal.TheVariants as refusals
 use Rattle.gic_inputs.specs.declared.inputs.Inputs.{Inputs}
 use Rattle.gic_inputs.specs.declared.inputs.StormInputs.{StormInputs}
 use Rattle.gic_criteria.specs.declared.asked.Criteria.{Criteria}
 use Rattle.gic_ask.specs.declared.request.Asked.{Asked}
-use Rattle.gic_ask.specs.declared.request.Asked.TheVariants.{Network, Robust}
+use Rattle.gic_ask.specs.declared.request.Asked.TheVariants.{Robust}
 use Rattle.gic_study.specs.Laws.{case_asked, AskedCasesAreSound}
 use Rattle.gic_study.proofs.Accepting.{Holds, Any, then_holds, anyway, reading_holds, made_holds}
 
@@ -60,7 +60,9 @@ module _ (accepted : AcceptedCasesAreSound) (made : MadeCasesAreSound) (contents
   over_network switch question make h = made_holds IsOverSound IsAskedSound (reading_network switch question contents) make (network_sound switch question) h
 
   asking_sound : (r : Request) → CanBeMade r → Holds IsAskedSound (asking r contents)
-  asking_sound (request.Network m r) can = over_network r.switch _ (Network m) (λ inputs sound. sound)
+  asking_sound (request.Network m r) can =
+      then_holds IsSound IsAskedSound (reading_case (contents file.Case)) (λ lists. asking_network m r lists contents) case_sound
+      (λ lists sound. made_holds Any IsAskedSound (reading_switchings r.switch lists contents) (network_given m r lists) (anyway (reading_switchings r.switch lists contents)) (λ rows any. sound))
   asking_sound (request.Study r) can =
       then_holds IsSound IsAskedSound (reading_case (contents file.Case)) (λ lists. asking_study r lists contents) case_sound
       (λ lists sound. made_holds IsStormOverSound IsAskedSound _ (study_given r) (over_sound r.switch _ lists sound) (λ inputs is_sound. is_sound))

@@ -7,8 +7,7 @@ use Rattle.gic_words.specs.declared.mode.NetworkMode.{NetworkMode}
 use Rattle.gic_words.specs.declared.mode.NetworkMode.TheVariants as network
 use Rattle.gic_ask.specs.declared.request.Asked.{Asked}
 use Rattle.gic_ask.specs.declared.request.Asked.TheVariants.{Network, Study, Make, Recheck, Series, Robust}
-use Rattle.gic_criteria.specs.declared.asked.Question.{Question}
-use Rattle.gic_inputs.specs.declared.inputs.Inputs.{Inputs}
+use Rattle.gic_ask.specs.declared.request.NetworkAsked.{NetworkAsked}
 use Rattle.gic_recheck.specs.Determines.{AcceptedIsNotRefused}
 use Rattle.gic_recheck.specs.declared.fault.CertificateRefusal.{CertificateRefusal}
 use Rattle.gic_stand.specs.Needs.{Nothing, IsUnmet}
@@ -29,21 +28,21 @@ abbrev mode_begun : List ℕ → Option Mode
 mode_begun text = option_map (λ r. r.mode) (find (λ r. first_three r.word == first_three text) mode_rows)
 
 -- a right text begins with the word of its mode, one row a mode over the network of a case
-begins_in : (m : NetworkMode) (inputs : Inputs Question) (text : List ℕ) → (network_meaning m).IsRight inputs text → mode_begun text ≡ Some (modes.Network m)
+begins_in : (m : NetworkMode) (a : NetworkAsked) (text : List ℕ) → (network_meaning m).IsRight inputs text → mode_begun text ≡ Some (modes.Network m)
 unfolding first_three
-begins_in network.Volts inputs text right = ap mode_begun right
-begins_in network.List inputs text right = ap mode_begun right
-begins_in network.Check inputs text right = ap mode_begun right
-begins_in network.Field inputs text right = ap mode_begun right.text_is
-begins_in network.Screen inputs text right = ap mode_begun right.text_is
-begins_in network.Certify inputs text right = ap mode_begun right.text_is
-begins_in network.Outage inputs text right = ap mode_begun right.text_is
-begins_in network.Review inputs text right = ap mode_begun right.text_is
+begins_in network.Volts a text right = ap mode_begun right
+begins_in network.List a text right = ap mode_begun right
+begins_in network.Check a text right = ap mode_begun right
+begins_in network.Field a text right = ap mode_begun right.text_is
+begins_in network.Screen a text right = ap mode_begun right.text_is
+begins_in network.Certify a text right = ap mode_begun right.text_is
+begins_in network.Outage a text right = ap mode_begun right.text_is
+begins_in network.Review a text right = ap mode_begun right.text_is
 
 -- and one for each other
 begins : (plans : Plans) (asked : Asked) (text : List ℕ) → IsRightText plans asked text → mode_begun text ≡ Some (mode_asked asked)
 unfolding first_three
-begins plans (Network m inputs) text right = begins_in m inputs text right
+begins plans (Network m a) text right = begins_in m a text right
 begins plans (Study asked) text right = ap mode_begun right.text_is
 begins plans (Make r) text right = ap mode_begun right.text_is
 begins plans (Series asked) text right = ap mode_begun right.text_is
@@ -61,7 +60,7 @@ texts_tell_modes plans others asked other text right right' =
 
 -- a certificate is not both refused and accepted
 pub refused_or_accepted : AcceptedIsNotRefused → (asked : Asked) (refusal : CertificateRefusal) → RefusesCertificate asked refusal → ¬ AcceptsCertificate asked
-refused_or_accepted never (Network m inputs) refusal refused accepted = refused
+refused_or_accepted never (Network m a) refusal refused accepted = refused
 refused_or_accepted never (Study asked) refusal refused accepted = refused
 refused_or_accepted never (Make r) refusal refused accepted = refused
 refused_or_accepted never (Series asked) refusal refused accepted = refused
@@ -70,7 +69,7 @@ refused_or_accepted never (Recheck asked) refusal refused accepted = never asked
 
 -- what is right of a certificate shows that it is accepted
 pub right_accepts : (plans : Plans) (asked : Asked) (text : List ℕ) → IsRightText plans asked text → AcceptsCertificate asked
-right_accepts plans (Network m inputs) text right = tt
+right_accepts plans (Network m a) text right = tt
 right_accepts plans (Study asked) text right = tt
 right_accepts plans (Make r) text right = tt
 right_accepts plans (Series asked) text right = tt
@@ -79,7 +78,7 @@ right_accepts plans (Recheck asked) text right = (right.certificate, right.accep
 
 -- where a certificate is asked to be checked, nothing is needed of the network
 pub refused_needs_nothing : (asked : Asked) (refusal : CertificateRefusal) (network : NetworkRefusal) → RefusesCertificate asked refusal → ¬ IsUnmet (need_of asked) (case_asked asked) (steps_asked asked) network
-refused_needs_nothing (Network m inputs) refusal network refused unmet = refused
+refused_needs_nothing (Network m a) refusal network refused unmet = refused
 refused_needs_nothing (Study asked) refusal network refused unmet = refused
 refused_needs_nothing (Make r) refusal network refused unmet = refused
 refused_needs_nothing (Series asked) refusal network refused unmet = refused

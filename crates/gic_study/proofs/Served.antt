@@ -6,7 +6,10 @@ use Rattle.gic_base.proofs.Parts.{keeps-refl}
 use Rattle.gic_stand.specs.Serves.{Shown}
 use Rattle.gic_stand.specs.declared.fault.ReportFault.{ReportFault}
 use Rattle.gic_stand.specs.declared.fault.ReportFault.TheVariants.{Refused, CannotWrite}
+use Rattle.gic_ask.specs.Network.{inputs_over}
 use Rattle.gic_ask.specs.declared.request.Asked.{Asked}
+use Rattle.gic_ask.specs.declared.request.NetworkAsked.{NetworkAsked}
+use Rattle.gic_stand.specs.Needs.{Need}
 use Rattle.gic_ask.specs.declared.request.RecheckAsked.{RecheckAsked}
 use Rattle.gic_ask.specs.declared.request.StudyAsked.{StudyAsked}
 use Rattle.gic_ask.specs.declared.request.Asked.TheVariants.{Network, Study, Make, Recheck, Series, Robust}
@@ -25,7 +28,7 @@ use Rattle.gic_study_mode.specs.declared.fault.StudyFault.{StudyFault}
 use Rattle.gic_study_mode.specs.declared.fault.StudyFault.TheVariants as study
 use Rattle.gic_study_mode.proofs.RightStudies.{by_plans}
 use Rattle.gic_study.specs.Concluding.{Answer, ServesMeaning, MayLackMemory, Concludes}
-use Rattle.gic_study.specs.ModeCalls.{ServesMade, reported, told, studied, rechecked}
+use Rattle.gic_study.specs.ModeCalls.{ServesMade, ServesNetwork, ServesOver, reported, told, studied, rechecked}
 use Rattle.gic_study.specs.ProgramPlans.{is_study}
 use Rattle.gic_study.specs.declared.fault.Fault.TheVariants.{Input, Report, Certificate, Memory}
 use Rattle.gic_study.specs.declared.fault.Wanting.{Wanting}
@@ -63,10 +66,12 @@ by_told plans asked before now (Ok answer) whole served ends = by_report plans a
 by_told plans asked before now (Err e) whole served ends =
     subst (Concludes plans asked before now) (sym ends) (tt, subst (λ (s : Shown). Keeps before.bytes s.bytes) (sym served) (keeps-refl before.bytes))
 
--- of a mode over the network of a case, by what it asks of it
-pub in_mode : {Q : Type 0} (mode is_mode : NetworkMode) (Ends : NetworkMode → Type 0) (over asked : Inputs Q) (Over : Inputs Q → Type 0)
-    → mode ≡ is_mode → over ≡ asked → (Over asked → Ends is_mode) → Over over → Ends mode
-in_mode mode is_mode Ends over asked Over mode_is over_is same ends = subst Ends (sym mode_is) (same (subst Over over_is ends))
+-- the report of a mode over the network of a case, by what it is asked of the network
+pub of_mode : {Q E : Type 0} (mode is_mode : NetworkMode) (a : NetworkAsked) (question : Q) (need : Need) (IsRight : Inputs Q → List ℕ → Type 0) (before now : Shown)
+    (answer : Result (Result (Unit {0}) ReportFault) E) → mode ≡ is_mode → (ServesOver need IsRight (inputs_over question a) before now answer → ServesNetwork is_mode a before now answer)
+    → (over : Inputs Q) → over ≡ inputs_over question a → ServesOver need IsRight over before now answer → ServesNetwork mode a before now answer
+of_mode mode is_mode a question need IsRight before now answer is same over over_is served =
+    subst (λ (m : NetworkMode). ServesNetwork m a before now answer) (sym is) (same (subst (λ (i : Inputs _). ServesOver need IsRight i before now answer) over_is served))
 
 -- what is no study ends as it does whatever monitors plan
 lacks_alike : (plans others : Plans) (wanting : Wanting) (asked : Asked) → is_study asked ≡ false → MayLackMemory plans wanting asked → MayLackMemory others wanting asked

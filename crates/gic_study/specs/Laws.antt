@@ -44,7 +44,7 @@ use Rattle.gic_study.specs.declared.fault.Wanting.{Wanting}
 
 -- its mode
 abbrev pub mode_asked : Asked → Mode
-mode_asked (Network m inputs) = mode.Network m
+mode_asked (Network m a) = mode.Network m
 mode_asked (Study asked) = mode.Study
 mode_asked (Make r) = mode.Make
 mode_asked (Recheck asked) = mode.Recheck

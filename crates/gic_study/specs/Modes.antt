@@ -6,6 +6,8 @@ use Rattle.gic_inputs.specs.declared.inputs.Inputs.{Inputs}
 use Rattle.gic_inputs.specs.declared.inputs.StormInputs.{StormInputs}
 use Rattle.gic_stand.specs.Needs.{Need, Nothing, Earthed, Solved}
 use Rattle.gic_stand.specs.Standing.{standing_of, steps_of}
+use Rattle.gic_ask.specs.Network.{inputs_over}
+use Rattle.gic_ask.specs.declared.request.NetworkAsked.{NetworkAsked}
 use Rattle.gic_ask.specs.declared.request.Asked.{Asked}
 use Rattle.gic_ask.specs.declared.request.Asked.TheVariants.{Network, Study, Make, Recheck, Series, Robust}
 use Rattle.gic_criteria.specs.declared.asked.Criteria.{Criteria}
@@ -54,27 +56,23 @@ over_network need IsRight inputs = record { need = need; case = inputs.case; ste
 abbrev over_storm : StormInputs → (Plans → (text : List ℕ) → Type 0) → Meaning
 over_storm inputs IsRight = record { need = Solved; case = inputs.case; steps = storm_steps inputs; IsRight = IsRight }
 
--- the same files, of which something else is asked
-abbrev pub with_question : {Q P : Type 0} → P → Inputs Q → Inputs P
-with_question question inputs = record { case = inputs.case; switchings = inputs.switchings; question = question }
-
--- a mode over the network of a case: what it needs of it, and when a text is right for its inputs
+-- a mode over the network of a case: what it needs of it, and when a text is right
 pub record NetworkMeaning : Type 1 where
   pub need : Need
-  pub IsRight : Inputs Question → (text : List ℕ) → Type 0
+  pub IsRight : NetworkAsked → (text : List ℕ) → Type 0
 
 -- of a mode that has a use for a field and criteria, for one of them, or for neither
 abbrev by_question : Need → (Inputs Question → (text : List ℕ) → Type 0) → NetworkMeaning
-by_question need IsRight = record { need = need; IsRight = IsRight }
+by_question need IsRight = record { need = need; IsRight = λ a. IsRight (inputs_over a.question a) }
 
 abbrev by_field : Need → (Inputs UniformField → (text : List ℕ) → Type 0) → NetworkMeaning
-by_field need IsRight = record { need = need; IsRight = λ inputs. IsRight (with_question inputs.question.field inputs) }
+by_field need IsRight = record { need = need; IsRight = λ a. IsRight (inputs_over a.question.field a) }
 
 abbrev by_criteria : Need → (Inputs Criteria → (text : List ℕ) → Type 0) → NetworkMeaning
-by_criteria need IsRight = record { need = need; IsRight = λ inputs. IsRight (with_question inputs.question.criteria inputs) }
+by_criteria need IsRight = record { need = need; IsRight = λ a. IsRight (inputs_over a.question.criteria a) }
 
 abbrev by_network : Need → (Inputs (Unit {0}) → (text : List ℕ) → Type 0) → NetworkMeaning
-by_network need IsRight = record { need = need; IsRight = λ inputs. IsRight (with_question (tt {0}) inputs) }
+by_network need IsRight = record { need = need; IsRight = λ a. IsRight (inputs_over (tt {0}) a) }
 
 -- one row a mode over the network of a case
 abbrev pub network_meaning : NetworkMode → NetworkMeaning
@@ -89,7 +87,7 @@ network_meaning mode.Review = by_network Nothing IsRightReview
 
 -- one row for these, and one for each other mode
 abbrev pub meaning_of : Asked → Meaning
-meaning_of (Network m inputs) = over_network (network_meaning m).need (network_meaning m).IsRight inputs
+meaning_of (Network m a) = record { need = (network_meaning m).need; case = a.case; steps = standing_of a.case a.switchings ∷ []; IsRight = λ plans. (network_meaning m).IsRight a }
 meaning_of (Study asked) = over_storm asked.inputs (IsRightStudy asked.inputs asked.detail)
 meaning_of (Make r) = record { need = Nothing; case = made_case r.seed r.size; steps = standing_of (made_case r.seed r.size) None ∷ []; IsRight = λ plans. IsRightMake r.seed r.size }
 meaning_of (Recheck asked) = over_network Nothing (λ i. IsRightRecheck i asked.certificate) asked.inputs

@@ -3,8 +3,7 @@ ghost use Rattle.std.specs.Prelude.{◌≡◌, IfOk, is_ok};
 ghost use Rattle.gic_criteria.specs.Ranges.{IsWithinCriteria, IsWithinField, IsWithinRanges};
 ghost use Rattle.gic_stand.specs.Needs.{Nothing, Earthed, Solved};
 ghost use Rattle.gic_stand.specs.Serves.{shown};
-ghost use Rattle.gic_study.specs.ModeCalls.{ServesOver};
-ghost use Rattle.gic_study.specs.Modes.{network_meaning, with_question};
+ghost use Rattle.gic_study.specs.ModeCalls.{ServesNetwork, ServesOver};
 ghost use Rattle.gic_volts.specs.Made as volts;
 ghost use Rattle.gic_list.specs.Made as list;
 ghost use Rattle.gic_check.specs.Made as check;
@@ -22,6 +21,7 @@ ghost use Rattle.gic_certify.specs.RightCertify.{IsRightCertify};
 ghost use Rattle.gic_outage.specs.RightOutage.{IsRightOutage};
 ghost use Rattle.gic_review.specs.RightReview.{IsRightReview};
 
+use gic_ask::NetworkAsked;
 use gic_base::{OutOfMemory, Sink};
 use gic_certify::certify;
 use gic_check::check;
@@ -178,64 +178,48 @@ fn review_report<S: Sink>(
     }
 }
 
-/// The same files, of which something else is asked.
-fn asking<Q: Copy, P: Copy>(inputs: Inputs<Q>, question: P) -> Inputs<P>
-    ensures { result ≡ with_question question inputs }
-{
-    let Inputs {
-        case,
-        switchings,
-        question: _question,
-    } = inputs;
-    Inputs {
-        case,
-        switchings,
-        question,
-    }
-}
-
 /// The report of a mode over the network of a case, or that its workspace was not made.
 pub(crate) fn network_report<S: Sink>(
     alloc: Global,
     mode: NetworkMode,
-    inputs: Inputs<Question>,
+    asked: NetworkAsked,
     out: &mut S,
 ) -> Result<Result<(), ReportFault>, OutOfMemory>
-    requires { IsWithinRanges inputs.question }
-    ensures { ServesOver (network_meaning mode).need (network_meaning mode).IsRight inputs
-        (shown S.written S.faults out.old) (shown S.written S.faults out.new) result }
+    requires { IsWithinRanges asked.question }
+    ensures { ServesNetwork mode asked (shown S.written S.faults out.old) (shown S.written S.faults out.new) result }
 {
-    let question = inputs.question;
+    let question = asked.question;
     match mode {
         NetworkMode::Volts => {
-            let inputs = asking(inputs, question.field);
+            let inputs = asked.over(question.field);
             volts_report(&inputs, gic_volts::make_workspace(alloc, &inputs), out)
         }
         NetworkMode::List => {
-            let inputs = asking(inputs, ());
+            let inputs = asked.over(());
             list_report(&inputs, gic_list::make_workspace(alloc, &inputs), out)
         }
         NetworkMode::Check => {
-            let inputs = asking(inputs, ());
+            let inputs = asked.over(());
             check_report(&inputs, gic_check::make_workspace(alloc, &inputs), out)
         }
         NetworkMode::Field => {
+            let inputs = asked.over(question);
             field_report(&inputs, gic_field::make_workspace(alloc, &inputs), out)
         }
         NetworkMode::Screen => {
-            let inputs = asking(inputs, question.criteria);
+            let inputs = asked.over(question.criteria);
             screen_report(&inputs, gic_screen_mode::make_workspace(alloc, &inputs), out)
         }
         NetworkMode::Certify => {
-            let inputs = asking(inputs, question.field);
+            let inputs = asked.over(question.field);
             certify_report(&inputs, gic_certify::make_workspace(alloc, &inputs), out)
         }
         NetworkMode::Outage => {
-            let inputs = asking(inputs, question.criteria);
+            let inputs = asked.over(question.criteria);
             outage_report(&inputs, gic_outage::make_workspace(alloc, &inputs), out)
         }
         NetworkMode::Review => {
-            let inputs = asking(inputs, ());
+            let inputs = asked.over(());
             review_report(&inputs, gic_review::make_workspace(alloc, &inputs), out)
         }
     }
