@@ -208,7 +208,11 @@ pub(crate) fn network_report<S: Sink>(
         }
         NetworkMode::Screen => {
             let inputs = asked.over(question.criteria);
-            screen_report(&inputs, gic_screen_mode::make_workspace(alloc, &inputs), out)
+            screen_report(
+                &inputs,
+                gic_screen_mode::make_workspace(alloc, &inputs),
+                out,
+            )
         }
         NetworkMode::Certify => {
             let inputs = asked.over(question.field);

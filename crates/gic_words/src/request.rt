@@ -259,10 +259,7 @@ fn tolerance(matches: &ArgMatches<'_>) -> u8
 }
 
 /// What a mode over the network of a case is asked.
-fn network_request(
-    alloc: Global,
-    matches: &ArgMatches<'_>,
-) -> Result<NetworkRequest, AllocError>
+fn network_request(alloc: Global, matches: &ArgMatches<'_>) -> Result<NetworkRequest, AllocError>
     requires case { IsSome (given (rows_of (found_of matches.now)) Opt.Case) }
     requires event { NamesEvent (rows_of (found_of matches.now)) }
     ensures value { IfOk result (λ r. network_request (rows_of (found_of matches.now)) ≡ Ok r) }
