@@ -130,24 +130,24 @@ module _ (law : Theorems) (ranges : MadeInRange) (sound : AskedCasesAreSound) (s
   kept : (call : Call) (answer : Answer) → Explains call answer → Tells call.before.err call.now.err answer → CallEnds call (status_of answer) → Headline call (status_of answer)
   kept call answer explained line ends = record {
     one_of_these = is_listed answer;
-    reported = at 0;
+    reported = fact_of 0;
     comes = λ s. reported call _ ends s.asked s.accepted s.met s.certificate s.stood;
-    unwritten = at 4;
-    usage = at 2;
-    unread = at 3;
-    case_refused = at 5;
-    storm_refused = at 6;
-    switch_refused = at 7;
-    unearthed = at 8;
-    unresolved = at 9;
-    too_long = at 10;
-    no_memory = at 11;
-    transformer_unknown = at 12;
-    certificate_refused = at 13;
+    unwritten = fact_of 4;
+    usage = fact_of 2;
+    unread = fact_of 3;
+    case_refused = fact_of 5;
+    storm_refused = fact_of 6;
+    switch_refused = fact_of 7;
+    unearthed = fact_of 8;
+    unresolved = fact_of 9;
+    too_long = fact_of 10;
+    no_memory = fact_of 11;
+    transformer_unknown = fact_of 12;
+    certificate_refused = fact_of 13;
   }
     where
-      at : (n : ℕ) → status_of answer ≡ n → Ended call n
-      at n is = subst (Ended call) is (ended call answer explained line)
+      fact_of : (n : ℕ) → status_of answer ≡ n → Ended call n
+      fact_of n is = subst (Ended call) is (ended call answer explained line)
 
   pub each_call_keeps_the_headline : EachCallKeepsTheHeadline
   each_call_keeps_the_headline call status ends =

@@ -70,8 +70,12 @@ by_told plans asked before now (Err e) whole served ends =
 pub of_mode : {Q E : Type 0} (mode is_mode : NetworkMode) (a : NetworkAsked) (question : Q) (need : Need) (IsRight : Inputs Q → List ℕ → Type 0) (before now : Shown)
     (answer : Result (Result (Unit {0}) ReportFault) E) → mode ≡ is_mode → (ServesOver need IsRight (inputs_over question a) before now answer → ServesNetwork is_mode a before now answer)
     → (over : Inputs Q) → over ≡ inputs_over question a → ServesOver need IsRight over before now answer → ServesNetwork mode a before now answer
-of_mode mode is_mode a question need IsRight before now answer is same over over_is served =
-    subst (λ (m : NetworkMode). ServesNetwork m a before now answer) (sym is) (same (subst (λ (i : Inputs _). ServesOver need IsRight i before now answer) over_is served))
+of_mode {Q = Q} mode is_mode a question need IsRight before now answer is same over over_is served =
+    subst (λ (m : NetworkMode). ServesNetwork m a before now answer) (sym is) (same (subst (λ (i : Inputs Q). ServesOver need IsRight i before now answer) over_is served))
+
+-- what is said of a question is said of the inputs that are asked it
+pub over_asked : {Q : Type 0} (a : NetworkAsked) (question : Q) (P : Q → Type 0) (over : Inputs Q) → over ≡ inputs_over question a → P question → P over.question
+over_asked {Q = Q} a question P over is holds = subst (λ (i : Inputs Q). P i.question) (sym is) holds
 
 -- what is no study ends as it does whatever monitors plan
 lacks_alike : (plans others : Plans) (wanting : Wanting) (asked : Asked) → is_study asked ≡ false → MayLackMemory plans wanting asked → MayLackMemory others wanting asked

@@ -69,24 +69,24 @@ nothing_written call (Err (Input fault)) explained not_done not_unwritten = expl
 
 says : (call : Call) (answer : Answer) → Explains call answer → StatusSays call (status_of answer)
 says call answer explained = record {
-  done = at 0;
-  usage = at 2;
-  unread = at 3;
-  unwritten = at 4;
-  case_refused = at 5;
-  storm_refused = at 6;
-  switch_refused = at 7;
-  unearthed = at 8;
-  unresolved = at 9;
-  too_long = at 10;
-  memory = at 11;
-  transformer_unknown = at 12;
-  certificate_refused = at 13;
+  done = fact_of 0;
+  usage = fact_of 2;
+  unread = fact_of 3;
+  unwritten = fact_of 4;
+  case_refused = fact_of 5;
+  storm_refused = fact_of 6;
+  switch_refused = fact_of 7;
+  unearthed = fact_of 8;
+  unresolved = fact_of 9;
+  too_long = fact_of 10;
+  memory = fact_of 11;
+  transformer_unknown = fact_of 12;
+  certificate_refused = fact_of 13;
   nothing = nothing_written call answer explained;
 }
   where
-    at : (n : ℕ) → status_of answer ≡ n → Said call n
-    at n is = subst (Said call) is (said call answer explained)
+    fact_of : (n : ℕ) → status_of answer ≡ n → Said call n
+    fact_of n is = subst (Said call) is (said call answer explained)
 
 pub statuses_say : StatusesSay
 statuses_say call status ends = subst (StatusSays call) (sym ends.status_is) (says call ends.answer ends.explained)

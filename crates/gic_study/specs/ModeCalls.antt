@@ -66,6 +66,6 @@ abbrev pub ServesNetwork : {E : Type 0} → NetworkMode → NetworkAsked → (be
 ServesNetwork m a = ServesMade (network_meaning m).need a.case (standing_of a.case a.switchings ∷ []) ((network_meaning m).IsRight a)
 
 -- out of memory is told for the workspace only where it wasn't made, and where it wasn't, this is told
-abbrev pub TellsMaking : {W E : Type 0} → (told : E → Fault) → Result W E → Answer → Type 0
-TellsMaking told (Ok workspace) answer = answer ≢ Err (Memory Workspace)
-TellsMaking told (Err e) answer = answer ≡ Err (told e)
+abbrev pub TellsMaking : {W E : Type 0} → (fault_of : E → Fault) → Result W E → Answer → Type 0
+TellsMaking fault_of (Ok workspace) answer = answer ≢ Err (Memory Workspace)
+TellsMaking fault_of (Err e) answer = answer ≡ Err (fault_of e)

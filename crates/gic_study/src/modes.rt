@@ -1,5 +1,5 @@
 //! The modes.
-ghost use Rattle.std.specs.Prelude.{◌≡◌, ◌∷◌, ◌<◌, ◌≤◌, None, length, map, IfOk, IfErr, is_ok};
+ghost use Rattle.std.specs.Prelude.{◌≡◌, [], ◌∷◌, ◌<◌, ◌≤◌, None, length, map, IfOk, IfErr, is_ok};
 ghost use Rattle.std.specs.Prelude as std;
 ghost use Rattle.gic_criteria.specs.Ranges.{IsWithinCriteria, IsWithinRobust};
 ghost use Rattle.gic_course.specs.Steps.{storm_steps};
@@ -72,7 +72,7 @@ fn make_report<S: Sink>(
     requires least { LEAST_SIZE ≤ request.size }
     requires most { request.size ≤ MOST_SIZE }
     requires made { IfOk made (make.IsMadeFor request.seed request.size) }
-    ensures ends { ServesMade Nothing (made_case request.seed request.size) (standing_of (made_case request.seed request.size) None ∷ std.[])
+    ensures ends { ServesMade Nothing (made_case request.seed request.size) (standing_of (made_case request.seed request.size) None ∷ [])
         (IsRightMake request.seed request.size)
         (shown S.written S.faults out.old) (shown S.written S.faults out.new) result }
     ensures memory { is_ok result ≡ is_ok made }

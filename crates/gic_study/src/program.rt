@@ -1,11 +1,13 @@
 //! The call that the program makes.
-ghost use Rattle.std.specs.Prelude.{◌≡◌, map, string_bytes, IfOk, IfErr};
+ghost use Rattle.std.specs.Prelude.{◌≡◌, false, map, string_bytes, IfOk, IfErr};
 ghost use Rattle.std.specs.IoError.{error_kind};
 ghost use Rattle.gic_ask.specs.Within.{IsAskedWithinRanges};
+ghost use Rattle.gic_ask.specs.declared.request.Asked.{Asked};
 ghost use Rattle.gic_files.specs.Files.{fetches};
 ghost use Rattle.gic_stand.specs.Serves.{Shown, shown};
 ghost use Rattle.gic_study.specs.Answers.{Explains, moment};
 ghost use Rattle.gic_study.specs.Concluding.{Concludes};
+ghost use Rattle.gic_study.specs.Modes.{Plans};
 ghost use Rattle.gic_study.specs.ProgramEnds.{EndsAtOnce, ProgramEnds, status_without_words};
 ghost use Rattle.gic_study.specs.ProgramPlans.{is_study, program_plans};
 
@@ -41,25 +43,34 @@ fn is_study(asked: &Asked) -> bool
     ensures { result ≡ is_study asked.now }
 {
     match asked {
+        Asked::Network(_, _) => false,
         Asked::Study(_) => true,
-        _ => false,
+        Asked::Make(_) => false,
+        Asked::Recheck(_) => false,
+        Asked::Series(_) => false,
+        Asked::Robust(_) => false,
     }
 }
 
-/// Writes the report of what is asked for. The program's monitors are made for a study alone.
-fn serve_attached<S: Sink>(alloc: Global, asked: Asked, out: &mut S) -> Result<(), Fault>
+/// Ends without a byte, since memory is wanting before the network is looked at.
+fn without_memory<S: Sink>(out: &mut S) -> Result<(), Fault>
+    ensures { (plans : Plans) (asked : Asked) → Concludes plans asked (shown S.written S.faults out.old) (shown S.written S.faults out.new) result }
+{
+    let _ = out;
+    Err(Fault::Memory(Wanting::Workspace))
+}
+
+/// Writes the report of what is asked for with the program's monitors.
+fn serve_with_monitors<S: Sink>(alloc: Global, asked: Asked, out: &mut S) -> Result<(), Fault>
     requires { IsAskedWithinRanges asked }
     ensures { Concludes program_plans asked (shown S.written S.faults out.old) (shown S.written S.faults out.new) result }
 {
-    if !is_study(&asked) {
-        return serve(alloc, asked, Vec::new(alloc), out);
-    }
     let (Ok(dwells), Ok(earthings), Ok(losses)) = (
         Box::new(alloc, DwellMonitor::new(alloc)),
         Box::new(alloc, EarthMonitor::new(alloc)),
         Box::new(alloc, VoltLoss::new(alloc, 1)),
     ) else {
-        return Err(Fault::Memory(Wanting::Workspace));
+        return without_memory(out);
     };
     let mut monitors: Vec<Box<dyn Monitor>> = Vec::new(alloc);
     let (Ok(()), Ok(()), Ok(())) = (
@@ -67,9 +78,30 @@ fn serve_attached<S: Sink>(alloc: Global, asked: Asked, out: &mut S) -> Result<(
         monitors.push(earthings),
         monitors.push(losses),
     ) else {
-        return Err(Fault::Memory(Wanting::Workspace));
+        return without_memory(out);
     };
     serve(alloc, asked, monitors, out)
+}
+
+/// Writes the report of what is asked for where that is no study: no monitor is made.
+fn serve_alone<S: Sink>(alloc: Global, asked: Asked, out: &mut S) -> Result<(), Fault>
+    requires ranges { IsAskedWithinRanges asked }
+    requires no_study { is_study asked ≡ false }
+    ensures { Concludes program_plans asked (shown S.written S.faults out.old) (shown S.written S.faults out.new) result }
+{
+    serve(alloc, asked, Vec::new(alloc), out)
+}
+
+/// Writes the report of what is asked for. The program's monitors are made for a study alone.
+fn serve_attached<S: Sink>(alloc: Global, asked: Asked, out: &mut S) -> Result<(), Fault>
+    requires { IsAskedWithinRanges asked }
+    ensures { Concludes program_plans asked (shown S.written S.faults out.old) (shown S.written S.faults out.new) result }
+{
+    if is_study(&asked) {
+        serve_with_monitors(alloc, asked, out)
+    } else {
+        serve_alone(alloc, asked, out)
+    }
 }
 
 /// Writes the report that the words ask for, with the program's monitors.

@@ -1,9 +1,15 @@
-use Rattle.std.proofs.Common.{sym, subst}
+use Rattle.std.proofs.Common.{◌≡◌, refl, sym, subst}
 use Rattle.gic_base.proofs.Parts.{keeps-refl}
 use Rattle.gic_stand.specs.Serves.{Shown, shown}
-use Rattle.gic_study.specs.Answers.{Tells}
+use Rattle.gic_study.specs.Answers.{Tells, status_of}
 use Rattle.gic_study.specs.Concluding.{Answer}
 use Rattle.gic_study.proofs.study.ended.Goals as goal
+
+pub returns-in-Ok-clause-status : goal.returns-in-Ok-clause-status
+returns-in-Ok-clause-status g c = subst (λ (a : Answer). 0 ≡ status_of a) (sym c.in-Ok.is) refl
+
+pub returns-in-Err-clause-status : goal.returns-in-Err-clause-status
+returns-in-Err-clause-status g c = subst (λ (a : Answer). c.status.result ≡ status_of a) (sym c.in-Err.is) c.status.ensures
 
 pub returns-in-Ok-clause-line : goal.returns-in-Ok-clause-line
 returns-in-Ok-clause-line g c =
