@@ -1,5 +1,5 @@
 #!/usr/bin/env python3
-"""Tests of definitions.py, claim.py and links.py.
+"""Tests of checklists.py, definitions.py, claim.py and links.py.
 
     python3 .ci/tests.py docs/tests/test_documents.py
 """
@@ -13,6 +13,7 @@ import unittest
 from pathlib import Path
 from unittest import mock
 
+import checklists
 import claim
 import definitions
 import links
@@ -377,6 +378,69 @@ class Links(unittest.TestCase):
             found = list(links.dead(Path("B.md"), text, top, links.endings(links.files_below(top))))
         self.assertEqual([name for name, is_dead in found if is_dead], ["docs/A.md#two", "gone.md", "other/a.rt"])
         self.assertEqual(len(found), 7)
+
+
+class Checklists(unittest.TestCase):
+    """Two modes over a network, one other, and two kinds."""
+
+    def setUp(self) -> None:
+        folder = tempfile.TemporaryDirectory()
+        self.addCleanup(folder.cleanup)
+        self.top = Path(folder.name)
+        row = '    ModeRow {{\n        mode: {},\n        word: "{}",\n    }},\n'
+        written(
+            self.top,
+            {
+                checklists.MODES: row.format("Mode::Network(NetworkMode::Near)", "near")
+                + row.format("Mode::Network(NetworkMode::Far)", "far")
+                + row.format("Mode::Storm", "storm"),
+                checklists.KINDS: '"two-coils" => Some(KindWord::TwoCoils),\n"coil" => Some(KindWord::Coil),\n',
+                "crates/gic_near/src/text.rt": "// `far`\n",
+                "crates/gic_far_mode/src/text.rt": "",
+                "crates/gic_top/src/rows.rt": "NetworkMode::Near => near, NetworkMode::Far => far",
+                "crates/gic_top/specs/Rows.antt": "network.Near, and another",
+                "generators/words.py": "MODES = ('near', 'far')",
+                "crates/gic_coil/src/kind.rt": "TwoCoils, Coil",
+                checklists.MAP: "**A new mode** (`gic_NAME`):\n1. `gic_words`: `src/mode.rt`;\n2. `gic_top`: `src/rows.rt`;\n"
+                "3. `generators/words.py`.\n\n**A new kind of transformer**:\n1. `gic_case_reader`: `transformer.rt`; `gic_coil/src/kind.rt`.\n",
+            },
+        )
+
+    def test_what_each_names_is_in_the_lists(self) -> None:
+        self.assertEqual(checklists.faults(self.top), (5, []))
+
+    def test_a_file_that_is_left_out_is_told(self) -> None:
+        written(self.top, {"desk/reports.py": 'READ = {"near": 1, "far": 2}\n'})
+        count, told = checklists.faults(self.top)
+        self.assertEqual(count, 6)
+        self.assertEqual(told, ["desk/reports.py: not in the checklist **A new mode** of docs/MAP.md"])
+
+    def test_a_file_of_another_crate_is_not_named(self) -> None:
+        written(self.top, {"crates/gic_other/src/rows.rt": "NetworkMode::Near, NetworkMode::Far"})
+        self.assertEqual(len(checklists.faults(self.top)[1]), 1)
+
+    def test_a_folder_names_the_files_in_it(self) -> None:
+        parts = ("desk", "lib", "gicdesk", "reports.py")
+        self.assertTrue(checklists.is_end("lib/gicdesk", parts))
+        self.assertTrue(checklists.is_end("report*.py", parts))
+        self.assertFalse(checklists.is_end("lib", parts))
+        self.assertFalse(checklists.is_end("desk/reports.py", parts))
+
+    def test_a_list_that_is_not_there_is_a_fault(self) -> None:
+        written(self.top, {checklists.MAP: "# Map\n"})
+        self.assertEqual(len(checklists.faults(self.top)[1]), 2)
+
+    def test_a_word_has_its_files(self) -> None:
+        lines = ["crates/gic_top/specs/Rows.antt", "crates/gic_top/src/rows.rt  all", "crates/gic_words/src/mode.rt  all"]
+        self.assertEqual(checklists.listed(self.top, "near"), [*lines, "generators/words.py  all"])
+        self.assertEqual(checklists.listed(self.top, "storm"), ["crates/gic_words/src/mode.rt"])
+        self.assertIsNone(checklists.listed(self.top, "fly"))
+
+    def test_words_that_are_not_known_end_with_2(self) -> None:
+        with contextlib.redirect_stderr(io.StringIO()) as told:
+            self.assertEqual(checklists.main(["fly"]), 2)
+            self.assertEqual(checklists.main(["--help"]), 2)
+        self.assertIn("no mode and no kind", told.getvalue())
 
 
 if __name__ == "__main__":

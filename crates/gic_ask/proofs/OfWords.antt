@@ -12,7 +12,7 @@ use Rattle.gic_words.specs.declared.request.Request.TheVariants as request
 use Rattle.gic_criteria.specs.declared.asked.Criteria.{Criteria}
 use Rattle.gic_words.specs.declared.fault.Usage.{Usage}
 use Rattle.gic_ask.specs.Contents.{Given, Absent, Long, Whole, Contents}
-use Rattle.gic_ask.specs.Outcome.{Outcome, Refuses, Lacks, Accepts, ◌>>=◌, reading, if_given, handing, reading_file, reading_case, reading_storm, reading_switchings, reading_inputs, reading_network, reading_after_storm, reading_over, transformer_named, transformer_asked, asking, asking_study, asking_recheck, asking_series}
+use Rattle.gic_ask.specs.Outcome.{Outcome, Refuses, Lacks, Accepts, ◌>>=◌, reading, if_given, handing, reading_file, reading_case, reading_storm, reading_switchings, reading_inputs, reading_network, reading_after_storm, reading_over, transformer_named, transformer_asked, asking, asking_network, asking_study, asking_recheck, asking_series}
 use Rattle.gic_ask.specs.WordsRefused.{UsageIsOfWords}
 use Rattle.gic_ask.specs.declared.fault.File.{File}
 use Rattle.gic_ask.specs.declared.fault.File.TheVariants as file
@@ -83,13 +83,9 @@ module _ (u : Usage) (contents : Contents) where
       (λ storm any. made_meets u (reading_switchings switch case contents) _ (switchings_meets switch case))
 
   asking_meets : (r : Request) → Meets Any u (asking r contents)
-  asking_meets (request.Volts r) = made_meets u _ _ (network_meets None _)
-  asking_meets (request.List case) = made_meets u _ _ (network_meets None _)
-  asking_meets (request.Check r) = made_meets u _ _ (network_meets r.switch _)
-  asking_meets (request.Field r) = made_meets u _ _ (network_meets r.switch _)
-  asking_meets (request.Screen r) = made_meets u _ _ (network_meets r.switch _)
-  asking_meets (request.Certify r) = made_meets u _ _ (network_meets r.switch _)
-  asking_meets (request.Outage r) = made_meets u _ _ (network_meets r.switch _)
+  asking_meets (request.Network m r) =
+      then_meets u Any Any (reading_case (contents file.Case)) (λ lists. asking_network m r lists contents) case_meets
+      (λ lists any. made_meets u _ _ (switchings_meets r.switch lists))
   asking_meets (request.Study r) =
       then_meets u Any Any (reading_case (contents file.Case)) (λ lists. asking_study r lists contents) case_meets
       (λ lists any. made_meets u _ _ (over_meets r.switch _ lists))
@@ -101,7 +97,6 @@ module _ (u : Usage) (contents : Contents) where
       then_meets u Any Any (reading_case (contents file.Case)) (λ lists. asking_series r lists contents) case_meets
       (λ lists any. then_meets u Any Any (reading (λ refusal. refusal) (transformer_asked lists r.transformer)) _ (found_meets u (transformer_named lists r.transformer))
       (λ place any. made_meets u _ _ (over_meets r.switch _ lists)))
-  asking_meets (request.Review case) = made_meets u _ _ (network_meets None _)
   asking_meets (request.Robust r) = made_meets u _ _ (network_meets r.switch _)
 
 -- so no refusal of the words

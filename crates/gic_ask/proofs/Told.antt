@@ -19,7 +19,7 @@ use Rattle.gic_words.specs.declared.fault.Usage.{Usage}
 use Rattle.gic_ask.specs.Asks.{IsAnswer}
 use Rattle.gic_ask.specs.Contents.{Given, Absent, Long, Whole, Contents, Names, MayGive, MayHandOut, name_of_file, names_in, of_case}
 use Rattle.gic_ask.specs.Held.{held, held_bytes, held_by_length, held_for, AnswersOfFiles}
-use Rattle.gic_ask.specs.Outcome.{Outcome, Refuses, Lacks, Accepts, ◌>>=◌, reading, if_given, handing, reading_file, reading_case, reading_storm, reading_switchings, reading_inputs, reading_network, reading_after_storm, reading_over, transformer_asked, asking, asking_study, asking_recheck, asking_series, outcome, recheck_given, series_given, study_given}
+use Rattle.gic_ask.specs.Outcome.{Outcome, Refuses, Lacks, Accepts, ◌>>=◌, reading, if_given, handing, reading_file, reading_case, reading_storm, reading_switchings, reading_inputs, reading_network, reading_after_storm, reading_over, transformer_asked, asking, asking_network, asking_study, asking_recheck, asking_series, outcome, network_given, recheck_given, series_given, study_given}
 use Rattle.gic_ask.specs.declared.fault.File.{File}
 use Rattle.gic_ask.specs.declared.fault.File.TheVariants as file
 use Rattle.gic_ask.specs.declared.fault.InputFault.{InputFault}
@@ -121,13 +121,9 @@ module _ (files : Files) (n : Names) (contents : Contents) (may : MayHandOut (So
 
 -- what a request asks for
 asked_same : (files : Files) (r : Request) (contents : Contents) → MayHandOut (Some files) (names_in r) contents → IsSameOrLacks (asking r contents) (asking r (held_for files (Ok r)))
-asked_same files (request.Volts r) contents may = made_same _ _ asked.Volts (network_same files (of_case r.case None) contents may _ r.case refl)
-asked_same files (request.List case) contents may = made_same _ _ asked.List (network_same files (of_case case None) contents may _ case refl)
-asked_same files (request.Check r) contents may = made_same _ _ asked.Check (network_same files (of_case r.case r.switch) contents may _ r.case refl)
-asked_same files (request.Field r) contents may = made_same _ _ asked.Field (network_same files (of_case r.case r.switch) contents may _ r.case refl)
-asked_same files (request.Screen r) contents may = made_same _ _ asked.Screen (network_same files (of_case r.case r.switch) contents may _ r.case refl)
-asked_same files (request.Certify r) contents may = made_same _ _ asked.Certify (network_same files (of_case r.case r.switch) contents may _ r.case refl)
-asked_same files (request.Outage r) contents may = made_same _ _ asked.Outage (network_same files (of_case r.case r.switch) contents may _ r.case refl)
+asked_same files (request.Network m r) contents may =
+    let n : Names = of_case r.case r.switch in
+    from_case files n contents may (asking_network m r) r.case refl (λ lists. made_same _ _ (network_given m r lists) (switchings_same files n contents may lists))
 asked_same files (request.Study r) contents may =
     let n : Names = record (of_case r.case r.switch) { storm = Some r.storm } in
     from_case files n contents may (asking_study r) r.case refl
@@ -142,7 +138,6 @@ asked_same files (request.Series r) contents may =
     from_case files n contents may (asking_series r) r.case refl
     (λ lists. next_same (reading (λ refusal. refusal) (transformer_asked lists r.transformer)) _ _
     (λ place. made_same _ _ (series_given r place) (over_same files n contents may _ r.storm refl lists)))
-asked_same files (request.Review case) contents may = made_same _ _ asked.Review (network_same files (of_case case None) contents may _ case refl)
 asked_same files (request.Robust r) contents may = made_same _ _ asked.Robust (network_same files (of_case r.case r.switch) contents may _ r.case refl)
 
 same_words : (files : Files) (r : Result Request Usage) (contents : Contents) → IfOk r (λ q. MayHandOut (Some files) (names_in q) contents)

@@ -20,20 +20,13 @@ pub record Names : Type 0 where
 abbrev pub of_case : (case : List ℕ) → (switch : Option (List ℕ)) → Names
 of_case case switch = record { case = Some case; storm = None; switch = switch; cert = None }
 
--- one row a mode
+-- one row for the modes over the network of a case, and one for each other
 abbrev pub names_in : Request → Names
-names_in (request.Volts r) = of_case r.case None
-names_in (request.List case) = of_case case None
-names_in (request.Check r) = of_case r.case r.switch
-names_in (request.Field r) = of_case r.case r.switch
-names_in (request.Screen r) = of_case r.case r.switch
-names_in (request.Certify r) = of_case r.case r.switch
-names_in (request.Outage r) = of_case r.case r.switch
+names_in (request.Network m r) = of_case r.case r.switch
 names_in (request.Study r) = record (of_case r.case r.switch) { storm = Some r.storm }
 names_in (request.Make r) = record { case = None; storm = None; switch = None; cert = None }
 names_in (request.Recheck r) = record (of_case r.case r.switch) { cert = Some r.cert }
 names_in (request.Series r) = record (of_case r.case r.switch) { storm = Some r.storm }
-names_in (request.Review case) = of_case case None
 names_in (request.Robust r) = of_case r.case r.switch
 
 -- the name of a file

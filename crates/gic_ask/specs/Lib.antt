@@ -5,3 +5,4 @@ pub mod Steps
 pub mod Held
 pub mod WordsRefused
 pub mod Within
+pub mod Network

@@ -10,6 +10,8 @@ use Rattle.gic_switch.specs.Rules.{switchings_of}
 use Rattle.gic_criteria.specs.Questions.{usual_criteria}
 use Rattle.gic_criteria.specs.declared.asked.Criteria.{Criteria}
 use Rattle.gic_words.specs.Requests.{request_of}
+use Rattle.gic_words.specs.declared.mode.NetworkMode.{NetworkMode}
+use Rattle.gic_words.specs.declared.request.NetworkRequest.{NetworkRequest}
 use Rattle.gic_words.specs.declared.request.Request.{Request}
 use Rattle.gic_words.specs.declared.request.Request.TheVariants as request
 use Rattle.gic_words.specs.declared.request.SeriesRequest.{SeriesRequest}
@@ -109,6 +111,10 @@ transformer_asked case name = ok_or (transformer_named case name) UnknownTransfo
 
 -- ---- what is asked for
 
+-- what a mode over the network of a case is given
+abbrev pub network_given : NetworkMode → NetworkRequest → Lists → Option (List Switching) → Asked
+network_given m r case switchings = asked.Network m (record { case = case; switchings = switchings; question = r.question })
+
 -- what the modes with more than inputs are given
 abbrev pub study_given : StudyRequest → StormInputs → Asked
 study_given r inputs = asked.Study (record { inputs = inputs; detail = r.detail })
@@ -118,6 +124,12 @@ series_given r transformer inputs = asked.Series (record { inputs = inputs; tran
 
 abbrev pub recheck_given : Inputs (Unit {0}) → (certificate : List ℕ) → Asked
 recheck_given inputs certificate = asked.Recheck (record { inputs = inputs; certificate = certificate })
+
+-- of the network of a case
+abbrev pub asking_network : NetworkMode → NetworkRequest → Lists → Contents → Outcome Asked
+asking_network m r case contents = do
+  switchings ← reading_switchings r.switch case contents
+  Accepts (network_given m r case switchings)
 
 -- of a storm over a case
 abbrev pub asking_study : StudyRequest → Lists → Contents → Outcome Asked
@@ -138,29 +150,11 @@ asking_recheck inputs contents = do
   certificate ← reading_certificate (contents file.Certificate)
   Accepts (recheck_given inputs certificate)
 
--- what a request asks for; one row a mode
+-- what a request asks for; one row for the modes over the network of a case, and one for each other
 abbrev pub asking : Request → Contents → Outcome Asked
-asking (request.Volts r) contents = do
-  inputs ← reading_network None r.field contents
-  Accepts (asked.Volts inputs)
-asking (request.List case) contents = do
-  inputs ← reading_network None (tt {0}) contents
-  Accepts (asked.List inputs)
-asking (request.Check r) contents = do
-  inputs ← reading_network r.switch (tt {0}) contents
-  Accepts (asked.Check inputs)
-asking (request.Field r) contents = do
-  inputs ← reading_network r.switch (record { field = r.field; criteria = r.criteria }) contents
-  Accepts (asked.Field inputs)
-asking (request.Screen r) contents = do
-  inputs ← reading_network r.switch r.criteria contents
-  Accepts (asked.Screen inputs)
-asking (request.Certify r) contents = do
-  inputs ← reading_network r.switch r.field contents
-  Accepts (asked.Certify inputs)
-asking (request.Outage r) contents = do
-  inputs ← reading_network r.switch r.criteria contents
-  Accepts (asked.Outage inputs)
+asking (request.Network m r) contents = do
+  case ← reading_case (contents file.Case)
+  asking_network m r case contents
 asking (request.Study r) contents = do
   case ← reading_case (contents file.Case)
   asking_study r case contents
@@ -171,9 +165,6 @@ asking (request.Recheck r) contents = do
 asking (request.Series r) contents = do
   case ← reading_case (contents file.Case)
   asking_series r case contents
-asking (request.Review case) contents = do
-  inputs ← reading_network None (tt {0}) contents
-  Accepts (asked.Review inputs)
 asking (request.Robust r) contents = do
   inputs ← reading_network r.switch r.criteria contents
   Accepts (asked.Robust inputs)

@@ -3,7 +3,7 @@ ghost use Rattle.std.specs.Prelude.{◌≡◌, ◌++◌, ℕ, List, IfOk, Some};
 ghost use Rattle.std.specs.declared.option.Option.{Option};
 ghost use Rattle.gic_files.specs.Files.{fetches};
 ghost use Rattle.gic_inputs.specs.Inputs.{IsStormOf};
-ghost use Rattle.gic_criteria.specs.Ranges.{IsWidth, IsWithinCriteria};
+ghost use Rattle.gic_criteria.specs.Ranges.{IsWidth, IsWithinCriteria, IsWithinRanges};
 ghost use Rattle.gic_words.specs.Accepted.{AreWithinRanges};
 ghost use Rattle.gic_words.specs.declared.request.Request.TheVariants as requests;
 ghost use Rattle.gic_ask.specs.declared.fault.File.TheVariants as file;
@@ -15,12 +15,14 @@ ghost use Rattle.gic_ask.specs.Within.{IsAskedWithinRanges};
 use crate::fault::InputFault;
 use crate::finding::transformer;
 use crate::reading::{case, certificate, storm, switchings};
-use crate::request::{Asked, RecheckAsked, SeriesAsked, StudyAsked};
+use crate::request::{Asked, NetworkAsked, RecheckAsked, SeriesAsked, StudyAsked};
 use gic_case::Case;
-use gic_criteria::{Criteria, Question};
+use gic_criteria::Criteria;
 use gic_files::Library;
 use gic_inputs::{Inputs, StormInputs};
-use gic_words::{FileName, RecheckRequest, Request, SeriesRequest, StudyRequest};
+use gic_words::{
+    FileName, NetworkMode, NetworkRequest, RecheckRequest, Request, SeriesRequest, StudyRequest,
+};
 use std::alloc::Global;
 
 /// A case, and then its switchings, where they are named. A certificate may be named as well.
@@ -70,6 +72,30 @@ fn over_case<L: Library>(
         storm,
         question,
     })
+}
+
+/// What a mode over the network of a case asks for.
+fn over_network<L: Library>(
+    alloc: Global,
+    library: &mut L,
+    mode: NetworkMode,
+    request: &NetworkRequest,
+) -> Result<Asked, InputFault>
+    ensures reads { let r = request.now in
+        Reads (L.content library.old) (of_case r.case r.switch) (file_named file.Case (Some r.case) ++ file_named file.Switch r.switch)
+        (asking (requests.Network mode r)) (fetches L.fetched L.failures library.old) (fetches L.fetched L.failures library.new) result }
+    ensures ranges { IsWithinRanges request.now.question → IfOk result IsAskedWithinRanges }
+{
+    let case = case(alloc, library, &request.case)?;
+    let switchings = switchings(alloc, library, &request.switch, &case)?;
+    Ok(Asked::Network(
+        mode,
+        NetworkAsked {
+            case,
+            switchings,
+            question: request.question,
+        },
+    ))
 }
 
 /// What a study asks for.
@@ -165,46 +191,11 @@ pub(crate) fn gather<L: Library>(
     ensures ranges { AreWithinRanges request.now → IfOk result IsAskedWithinRanges }
 {
     match request {
-        Request::Volts(r) => {
-            let inputs = network(alloc, library, &r.case, &None, r.field)?;
-            Ok(Asked::Volts(inputs))
-        }
-        Request::List(case) => {
-            let inputs = network(alloc, library, case, &None, ())?;
-            Ok(Asked::List(inputs))
-        }
-        Request::Check(r) => {
-            let inputs = network(alloc, library, &r.case, &r.switch, ())?;
-            Ok(Asked::Check(inputs))
-        }
-        Request::Field(r) => {
-            let question = Question {
-                field: r.field,
-                criteria: r.criteria,
-            };
-            let inputs = network(alloc, library, &r.case, &r.switch, question)?;
-            Ok(Asked::Field(inputs))
-        }
-        Request::Screen(r) => {
-            let inputs = network(alloc, library, &r.case, &r.switch, r.criteria)?;
-            Ok(Asked::Screen(inputs))
-        }
-        Request::Certify(r) => {
-            let inputs = network(alloc, library, &r.case, &r.switch, r.field)?;
-            Ok(Asked::Certify(inputs))
-        }
-        Request::Outage(r) => {
-            let inputs = network(alloc, library, &r.case, &r.switch, r.criteria)?;
-            Ok(Asked::Outage(inputs))
-        }
+        Request::Network(mode, r) => over_network(alloc, library, *mode, r),
         Request::Study(r) => study(alloc, library, r),
         Request::Make(r) => Ok(Asked::Make(*r)),
         Request::Recheck(r) => recheck(alloc, library, r),
         Request::Series(r) => series(alloc, library, r),
-        Request::Review(case) => {
-            let inputs = network(alloc, library, case, &None, ())?;
-            Ok(Asked::Review(inputs))
-        }
         Request::Robust(r) => {
             let inputs = network(alloc, library, &r.case, &r.switch, r.criteria)?;
             Ok(Asked::Robust(inputs))

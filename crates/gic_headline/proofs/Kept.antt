@@ -1,5 +1,11 @@
 -- Each call keeps the headline.
-use Rattle.std.proofs.Common.{ℕ, List, inl, inr, Ok, Err, refl, sym, subst, arith}
+use Rattle.std.proofs.Common.{◌≡◌, ℕ, ◌==◌, List, [], ◌∷◌, ◌⊎◌, inl, inr, Ok, Err, refl, sym, subst, arith}
+use Rattle.std.specs.Prelude.{Contains, ⊤}
+use Rattle.gic_case_reader.specs.declared.refusal.CaseRefusal.{CaseRefusal}
+use Rattle.gic_storm.specs.declared.refusal.StormRefusal.{StormRefusal}
+use Rattle.gic_switch.specs.declared.refusal.SwitchRefusal.{SwitchRefusal}
+use Rattle.gic_words.specs.declared.fault.Usage.{Usage}
+use Rattle.gic_ask.specs.declared.fault.File.{File}
 use Rattle.gic_ask.specs.declared.fault.InputFault.{InputFault}
 use Rattle.gic_ask.specs.declared.fault.InputFault.TheVariants as input
 use Rattle.gic_ask.specs.declared.fault.InputRefusal.TheVariants as refused
@@ -18,6 +24,7 @@ use Rattle.gic_study.specs.Modes.{IsRightText, RefusesCertificate}
 use Rattle.gic_study.specs.declared.fault.Fault.{Fault}
 use Rattle.gic_study.specs.declared.fault.Fault.TheVariants.{Input, Report, Certificate, Memory}
 use Rattle.gic_study.specs.declared.fault.Wanting.{Wanting}
+use Rattle.gic_study.proofs.Statuses.{chosen}
 use Rattle.gic_headline.specs.Headline.{Headline, TrueReport, WritesReport, WritesPart, EndsUnasked, EndsUnreported, EndsUnmet}
 use Rattle.gic_headline.specs.Laws.{EachCallKeepsTheHeadline}
 use Rattle.gic_headline.proofs.MadeAsked.{made_asked}
@@ -40,6 +47,40 @@ by_certificate call r e line = record { asked = e.asked; asks = e.asks; cause = 
 by_memory : (call : Call) (wanting : Wanting) → Served call (Err (Memory wanting)) → TellsFault call (Memory wanting)
     → EndsUnreported call (Memory wanting) (MayLackMemory call.plans wanting)
 by_memory call wanting e line = record { asked = e.asked; asks = e.asks; cause = e.concludes.0; told = record { nothing = e.concludes.1; told = line } }
+
+-- how a call with a status ended, one row a status
+abbrev Ended : Call → ℕ → Type 0
+Ended call n =
+    chosen (n == 0) (WritesReport call)
+    (chosen (n == 2) ((u : Usage) × EndsUnasked call (input.Refused (refused.Usage u)))
+    (chosen (n == 3) ((file : File) × EndsUnasked call (input.CannotRead file))
+    (chosen (n == 4) (WritesPart call)
+    (chosen (n == 5) ((e : CaseRefusal) × EndsUnasked call (input.Refused (refused.Case e)))
+    (chosen (n == 6) ((e : StormRefusal) × EndsUnasked call (input.Refused (refused.Storm e)))
+    (chosen (n == 7) ((e : SwitchRefusal) × EndsUnasked call (input.Refused (refused.Switch e)))
+    (chosen (n == 8) ((step : ℕ) × ((node : List ℕ) × EndsUnmet call (network.Unearthed step node)))
+    (chosen (n == 9) ((step : ℕ) × ((node : List ℕ) × EndsUnmet call (network.Unresolved step node)))
+    (chosen (n == 10) ((file : File) × EndsUnasked call (input.Refused (refused.TooLong file)))
+    (chosen (n == 11) (EndsUnasked call input.Memory ⊎ ((wanting : Wanting) × EndsUnreported call (Memory wanting) (MayLackMemory call.plans wanting)))
+    (chosen (n == 12) (EndsUnasked call (input.Refused refused.UnknownTransformer))
+    (chosen (n == 13) ((e : CertificateRefusal) × EndsUnreported call (Certificate e) (λ asked. RefusesCertificate asked e)) ⊤))))))))))))
+
+-- the place of a status in the list of all
+is_listed : (answer : Answer) → Contains (0 ∷ 2 ∷ 3 ∷ 4 ∷ 5 ∷ 6 ∷ 7 ∷ 8 ∷ 9 ∷ 10 ∷ 11 ∷ 12 ∷ 13 ∷ []) (status_of answer)
+is_listed (Ok done) = (0, omega arith, refl)
+is_listed (Err (Input (input.Refused (refused.Usage u)))) = (1, omega arith, refl)
+is_listed (Err (Input (input.CannotRead file))) = (2, omega arith, refl)
+is_listed (Err (Report report.CannotWrite)) = (3, omega arith, refl)
+is_listed (Err (Input (input.Refused (refused.Case e)))) = (4, omega arith, refl)
+is_listed (Err (Input (input.Refused (refused.Storm e)))) = (5, omega arith, refl)
+is_listed (Err (Input (input.Refused (refused.Switch e)))) = (6, omega arith, refl)
+is_listed (Err (Report (report.Refused (network.Unearthed step node)))) = (7, omega arith, refl)
+is_listed (Err (Report (report.Refused (network.Unresolved step node)))) = (8, omega arith, refl)
+is_listed (Err (Input (input.Refused (refused.TooLong file)))) = (9, omega arith, refl)
+is_listed (Err (Input input.Memory)) = (10, omega arith, refl)
+is_listed (Err (Memory wanting)) = (10, omega arith, refl)
+is_listed (Err (Input (input.Refused refused.UnknownTransformer))) = (11, omega arith, refl)
+is_listed (Err (Certificate e)) = (12, omega arith, refl)
 
 module _ (law : Theorems) (ranges : MadeInRange) (sound : AskedCasesAreSound) (stepped : AskedStormsHaveSteps) (reported : AcceptedIsReported) where
   -- what is asked for, with the right text of it
@@ -69,245 +110,44 @@ module _ (law : Theorems) (ranges : MadeInRange) (sound : AskedCasesAreSound) (s
     told = line;
   }
 
+  -- how a call with the status of an answer ended
+  ended : (call : Call) (answer : Answer) → Explains call answer → Tells call.before.err call.now.err answer → Ended call (status_of answer)
+  ended call (Ok done) explained line = writes_whole call explained line
+  ended call (Err (Input (input.Refused (refused.Usage u)))) explained line = (u, by_inputs call _ explained line)
+  ended call (Err (Input (input.CannotRead file))) explained line = (file, by_inputs call _ explained line)
+  ended call (Err (Report report.CannotWrite)) explained line = writes_part call explained line
+  ended call (Err (Input (input.Refused (refused.Case e)))) explained line = (e, by_inputs call _ explained line)
+  ended call (Err (Input (input.Refused (refused.Storm e)))) explained line = (e, by_inputs call _ explained line)
+  ended call (Err (Input (input.Refused (refused.Switch e)))) explained line = (e, by_inputs call _ explained line)
+  ended call (Err (Report (report.Refused (network.Unearthed step node)))) explained line = (step, (node, by_network call _ explained line))
+  ended call (Err (Report (report.Refused (network.Unresolved step node)))) explained line = (step, (node, by_network call _ explained line))
+  ended call (Err (Input (input.Refused (refused.TooLong file)))) explained line = (file, by_inputs call _ explained line)
+  ended call (Err (Input input.Memory)) explained line = inl (by_inputs call _ explained line)
+  ended call (Err (Memory wanting)) explained line = inr (wanting, by_memory call wanting explained line)
+  ended call (Err (Input (input.Refused refused.UnknownTransformer))) explained line = by_inputs call _ explained line
+  ended call (Err (Certificate e)) explained line = (e, by_certificate call e explained line)
+
   kept : (call : Call) (answer : Answer) → Explains call answer → Tells call.before.err call.now.err answer → CallEnds call (status_of answer) → Headline call (status_of answer)
-  kept call (Ok done) explained line ends = record {
-    one_of_these = (0, omega arith, refl);
-    reported = λ e. writes_whole call explained line;
-    unwritten = λ e. absurd (omega (arith, e));
-    usage = λ e. absurd (omega (arith, e));
-    unread = λ e. absurd (omega (arith, e));
-    case_refused = λ e. absurd (omega (arith, e));
-    storm_refused = λ e. absurd (omega (arith, e));
-    switch_refused = λ e. absurd (omega (arith, e));
-    unearthed = λ e. absurd (omega (arith, e));
-    unresolved = λ e. absurd (omega (arith, e));
-    too_long = λ e. absurd (omega (arith, e));
-    transformer_unknown = λ e. absurd (omega (arith, e));
-    certificate_refused = λ e. absurd (omega (arith, e));
-    no_memory = λ e. absurd (omega (arith, e));
+  kept call answer explained line ends = record {
+    one_of_these = is_listed answer;
+    reported = fact_of 0;
     comes = λ s. reported call _ ends s.asked s.accepted s.met s.certificate s.stood;
+    unwritten = fact_of 4;
+    usage = fact_of 2;
+    unread = fact_of 3;
+    case_refused = fact_of 5;
+    storm_refused = fact_of 6;
+    switch_refused = fact_of 7;
+    unearthed = fact_of 8;
+    unresolved = fact_of 9;
+    too_long = fact_of 10;
+    no_memory = fact_of 11;
+    transformer_unknown = fact_of 12;
+    certificate_refused = fact_of 13;
   }
-  kept call (Err (Report report.CannotWrite)) explained line ends = record {
-    one_of_these = (3, omega arith, refl);
-    reported = λ e. absurd (omega (arith, e));
-    unwritten = λ e. writes_part call explained line;
-    usage = λ e. absurd (omega (arith, e));
-    unread = λ e. absurd (omega (arith, e));
-    case_refused = λ e. absurd (omega (arith, e));
-    storm_refused = λ e. absurd (omega (arith, e));
-    switch_refused = λ e. absurd (omega (arith, e));
-    unearthed = λ e. absurd (omega (arith, e));
-    unresolved = λ e. absurd (omega (arith, e));
-    too_long = λ e. absurd (omega (arith, e));
-    transformer_unknown = λ e. absurd (omega (arith, e));
-    certificate_refused = λ e. absurd (omega (arith, e));
-    no_memory = λ e. absurd (omega (arith, e));
-    comes = λ s. reported call _ ends s.asked s.accepted s.met s.certificate s.stood;
-  }
-  kept call (Err (Input (input.Refused (refused.Usage u)))) explained line ends = record {
-    one_of_these = (1, omega arith, refl);
-    reported = λ e. absurd (omega (arith, e));
-    unwritten = λ e. absurd (omega (arith, e));
-    usage = λ e. (u, by_inputs call _ explained line);
-    unread = λ e. absurd (omega (arith, e));
-    case_refused = λ e. absurd (omega (arith, e));
-    storm_refused = λ e. absurd (omega (arith, e));
-    switch_refused = λ e. absurd (omega (arith, e));
-    unearthed = λ e. absurd (omega (arith, e));
-    unresolved = λ e. absurd (omega (arith, e));
-    too_long = λ e. absurd (omega (arith, e));
-    transformer_unknown = λ e. absurd (omega (arith, e));
-    certificate_refused = λ e. absurd (omega (arith, e));
-    no_memory = λ e. absurd (omega (arith, e));
-    comes = λ s. reported call _ ends s.asked s.accepted s.met s.certificate s.stood;
-  }
-  kept call (Err (Input (input.CannotRead file))) explained line ends = record {
-    one_of_these = (2, omega arith, refl);
-    reported = λ e. absurd (omega (arith, e));
-    unwritten = λ e. absurd (omega (arith, e));
-    usage = λ e. absurd (omega (arith, e));
-    unread = λ e. (file, by_inputs call _ explained line);
-    case_refused = λ e. absurd (omega (arith, e));
-    storm_refused = λ e. absurd (omega (arith, e));
-    switch_refused = λ e. absurd (omega (arith, e));
-    unearthed = λ e. absurd (omega (arith, e));
-    unresolved = λ e. absurd (omega (arith, e));
-    too_long = λ e. absurd (omega (arith, e));
-    transformer_unknown = λ e. absurd (omega (arith, e));
-    certificate_refused = λ e. absurd (omega (arith, e));
-    no_memory = λ e. absurd (omega (arith, e));
-    comes = λ s. reported call _ ends s.asked s.accepted s.met s.certificate s.stood;
-  }
-  kept call (Err (Input (input.Refused (refused.Case r)))) explained line ends = record {
-    one_of_these = (4, omega arith, refl);
-    reported = λ e. absurd (omega (arith, e));
-    unwritten = λ e. absurd (omega (arith, e));
-    usage = λ e. absurd (omega (arith, e));
-    unread = λ e. absurd (omega (arith, e));
-    case_refused = λ e. (r, by_inputs call _ explained line);
-    storm_refused = λ e. absurd (omega (arith, e));
-    switch_refused = λ e. absurd (omega (arith, e));
-    unearthed = λ e. absurd (omega (arith, e));
-    unresolved = λ e. absurd (omega (arith, e));
-    too_long = λ e. absurd (omega (arith, e));
-    transformer_unknown = λ e. absurd (omega (arith, e));
-    certificate_refused = λ e. absurd (omega (arith, e));
-    no_memory = λ e. absurd (omega (arith, e));
-    comes = λ s. reported call _ ends s.asked s.accepted s.met s.certificate s.stood;
-  }
-  kept call (Err (Input (input.Refused (refused.Storm r)))) explained line ends = record {
-    one_of_these = (5, omega arith, refl);
-    reported = λ e. absurd (omega (arith, e));
-    unwritten = λ e. absurd (omega (arith, e));
-    usage = λ e. absurd (omega (arith, e));
-    unread = λ e. absurd (omega (arith, e));
-    case_refused = λ e. absurd (omega (arith, e));
-    storm_refused = λ e. (r, by_inputs call _ explained line);
-    switch_refused = λ e. absurd (omega (arith, e));
-    unearthed = λ e. absurd (omega (arith, e));
-    unresolved = λ e. absurd (omega (arith, e));
-    too_long = λ e. absurd (omega (arith, e));
-    transformer_unknown = λ e. absurd (omega (arith, e));
-    certificate_refused = λ e. absurd (omega (arith, e));
-    no_memory = λ e. absurd (omega (arith, e));
-    comes = λ s. reported call _ ends s.asked s.accepted s.met s.certificate s.stood;
-  }
-  kept call (Err (Input (input.Refused (refused.Switch r)))) explained line ends = record {
-    one_of_these = (6, omega arith, refl);
-    reported = λ e. absurd (omega (arith, e));
-    unwritten = λ e. absurd (omega (arith, e));
-    usage = λ e. absurd (omega (arith, e));
-    unread = λ e. absurd (omega (arith, e));
-    case_refused = λ e. absurd (omega (arith, e));
-    storm_refused = λ e. absurd (omega (arith, e));
-    switch_refused = λ e. (r, by_inputs call _ explained line);
-    unearthed = λ e. absurd (omega (arith, e));
-    unresolved = λ e. absurd (omega (arith, e));
-    too_long = λ e. absurd (omega (arith, e));
-    transformer_unknown = λ e. absurd (omega (arith, e));
-    certificate_refused = λ e. absurd (omega (arith, e));
-    no_memory = λ e. absurd (omega (arith, e));
-    comes = λ s. reported call _ ends s.asked s.accepted s.met s.certificate s.stood;
-  }
-  kept call (Err (Report (report.Refused (network.Unearthed step node)))) explained line ends = record {
-    one_of_these = (7, omega arith, refl);
-    reported = λ e. absurd (omega (arith, e));
-    unwritten = λ e. absurd (omega (arith, e));
-    usage = λ e. absurd (omega (arith, e));
-    unread = λ e. absurd (omega (arith, e));
-    case_refused = λ e. absurd (omega (arith, e));
-    storm_refused = λ e. absurd (omega (arith, e));
-    switch_refused = λ e. absurd (omega (arith, e));
-    unearthed = λ e. (step, (node, by_network call _ explained line));
-    unresolved = λ e. absurd (omega (arith, e));
-    too_long = λ e. absurd (omega (arith, e));
-    transformer_unknown = λ e. absurd (omega (arith, e));
-    certificate_refused = λ e. absurd (omega (arith, e));
-    no_memory = λ e. absurd (omega (arith, e));
-    comes = λ s. reported call _ ends s.asked s.accepted s.met s.certificate s.stood;
-  }
-  kept call (Err (Report (report.Refused (network.Unresolved step node)))) explained line ends = record {
-    one_of_these = (8, omega arith, refl);
-    reported = λ e. absurd (omega (arith, e));
-    unwritten = λ e. absurd (omega (arith, e));
-    usage = λ e. absurd (omega (arith, e));
-    unread = λ e. absurd (omega (arith, e));
-    case_refused = λ e. absurd (omega (arith, e));
-    storm_refused = λ e. absurd (omega (arith, e));
-    switch_refused = λ e. absurd (omega (arith, e));
-    unearthed = λ e. absurd (omega (arith, e));
-    unresolved = λ e. (step, (node, by_network call _ explained line));
-    too_long = λ e. absurd (omega (arith, e));
-    transformer_unknown = λ e. absurd (omega (arith, e));
-    certificate_refused = λ e. absurd (omega (arith, e));
-    no_memory = λ e. absurd (omega (arith, e));
-    comes = λ s. reported call _ ends s.asked s.accepted s.met s.certificate s.stood;
-  }
-  kept call (Err (Input (input.Refused (refused.TooLong file)))) explained line ends = record {
-    one_of_these = (9, omega arith, refl);
-    reported = λ e. absurd (omega (arith, e));
-    unwritten = λ e. absurd (omega (arith, e));
-    usage = λ e. absurd (omega (arith, e));
-    unread = λ e. absurd (omega (arith, e));
-    case_refused = λ e. absurd (omega (arith, e));
-    storm_refused = λ e. absurd (omega (arith, e));
-    switch_refused = λ e. absurd (omega (arith, e));
-    unearthed = λ e. absurd (omega (arith, e));
-    unresolved = λ e. absurd (omega (arith, e));
-    too_long = λ e. (file, by_inputs call _ explained line);
-    transformer_unknown = λ e. absurd (omega (arith, e));
-    certificate_refused = λ e. absurd (omega (arith, e));
-    no_memory = λ e. absurd (omega (arith, e));
-    comes = λ s. reported call _ ends s.asked s.accepted s.met s.certificate s.stood;
-  }
-  kept call (Err (Input (input.Refused refused.UnknownTransformer))) explained line ends = record {
-    one_of_these = (11, omega arith, refl);
-    reported = λ e. absurd (omega (arith, e));
-    unwritten = λ e. absurd (omega (arith, e));
-    usage = λ e. absurd (omega (arith, e));
-    unread = λ e. absurd (omega (arith, e));
-    case_refused = λ e. absurd (omega (arith, e));
-    storm_refused = λ e. absurd (omega (arith, e));
-    switch_refused = λ e. absurd (omega (arith, e));
-    unearthed = λ e. absurd (omega (arith, e));
-    unresolved = λ e. absurd (omega (arith, e));
-    too_long = λ e. absurd (omega (arith, e));
-    transformer_unknown = λ e. by_inputs call _ explained line;
-    certificate_refused = λ e. absurd (omega (arith, e));
-    no_memory = λ e. absurd (omega (arith, e));
-    comes = λ s. reported call _ ends s.asked s.accepted s.met s.certificate s.stood;
-  }
-  kept call (Err (Certificate r)) explained line ends = record {
-    one_of_these = (12, omega arith, refl);
-    reported = λ e. absurd (omega (arith, e));
-    unwritten = λ e. absurd (omega (arith, e));
-    usage = λ e. absurd (omega (arith, e));
-    unread = λ e. absurd (omega (arith, e));
-    case_refused = λ e. absurd (omega (arith, e));
-    storm_refused = λ e. absurd (omega (arith, e));
-    switch_refused = λ e. absurd (omega (arith, e));
-    unearthed = λ e. absurd (omega (arith, e));
-    unresolved = λ e. absurd (omega (arith, e));
-    too_long = λ e. absurd (omega (arith, e));
-    transformer_unknown = λ e. absurd (omega (arith, e));
-    certificate_refused = λ e. (r, by_certificate call r explained line);
-    no_memory = λ e. absurd (omega (arith, e));
-    comes = λ s. reported call _ ends s.asked s.accepted s.met s.certificate s.stood;
-  }
-  kept call (Err (Input input.Memory)) explained line ends = record {
-    one_of_these = (10, omega arith, refl);
-    reported = λ e. absurd (omega (arith, e));
-    unwritten = λ e. absurd (omega (arith, e));
-    usage = λ e. absurd (omega (arith, e));
-    unread = λ e. absurd (omega (arith, e));
-    case_refused = λ e. absurd (omega (arith, e));
-    storm_refused = λ e. absurd (omega (arith, e));
-    switch_refused = λ e. absurd (omega (arith, e));
-    unearthed = λ e. absurd (omega (arith, e));
-    unresolved = λ e. absurd (omega (arith, e));
-    too_long = λ e. absurd (omega (arith, e));
-    transformer_unknown = λ e. absurd (omega (arith, e));
-    certificate_refused = λ e. absurd (omega (arith, e));
-    no_memory = λ e. inl (by_inputs call _ explained line);
-    comes = λ s. reported call _ ends s.asked s.accepted s.met s.certificate s.stood;
-  }
-  kept call (Err (Memory wanting)) explained line ends = record {
-    one_of_these = (10, omega arith, refl);
-    reported = λ e. absurd (omega (arith, e));
-    unwritten = λ e. absurd (omega (arith, e));
-    usage = λ e. absurd (omega (arith, e));
-    unread = λ e. absurd (omega (arith, e));
-    case_refused = λ e. absurd (omega (arith, e));
-    storm_refused = λ e. absurd (omega (arith, e));
-    switch_refused = λ e. absurd (omega (arith, e));
-    unearthed = λ e. absurd (omega (arith, e));
-    unresolved = λ e. absurd (omega (arith, e));
-    too_long = λ e. absurd (omega (arith, e));
-    transformer_unknown = λ e. absurd (omega (arith, e));
-    certificate_refused = λ e. absurd (omega (arith, e));
-    no_memory = λ e. inr (wanting, by_memory call wanting explained line);
-    comes = λ s. reported call _ ends s.asked s.accepted s.met s.certificate s.stood;
-  }
+    where
+      fact_of : (n : ℕ) → status_of answer ≡ n → Ended call n
+      fact_of n is = subst (Ended call) is (ended call answer explained line)
 
   pub each_call_keeps_the_headline : EachCallKeepsTheHeadline
   each_call_keeps_the_headline call status ends =

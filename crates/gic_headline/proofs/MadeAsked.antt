@@ -6,12 +6,12 @@ use Rattle.gic_words.specs.Requests.{request_of}
 use Rattle.gic_words.specs.declared.request.Request.{Request}
 use Rattle.gic_words.specs.declared.request.Request.TheVariants as request
 use Rattle.gic_ask.specs.Contents.{Contents}
-use Rattle.gic_ask.specs.Outcome.{Outcome, Accepts, ◌>>=◌, reading, reading_case, reading_certificate, reading_network, reading_over, transformer_asked, asking, asking_study, asking_recheck, asking_series, outcome, recheck_given, series_given, study_given}
+use Rattle.gic_ask.specs.Outcome.{Outcome, Accepts, ◌>>=◌, reading, reading_case, reading_certificate, reading_network, reading_over, reading_switchings, transformer_asked, asking, asking_network, asking_study, asking_recheck, asking_series, outcome, network_given, recheck_given, series_given, study_given}
 use Rattle.gic_ask.specs.declared.fault.File.TheVariants as file
 use Rattle.gic_ask.specs.declared.fault.InputRefusal.TheVariants as refusals
 use Rattle.gic_inputs.specs.declared.inputs.Inputs.{Inputs}
 use Rattle.gic_ask.specs.declared.request.Asked.{Asked}
-use Rattle.gic_ask.specs.declared.request.Asked.TheVariants.{Volts, List as ListAsked, Check, Field, Screen, Certify, Outage, Make, Review, Robust}
+use Rattle.gic_ask.specs.declared.request.Asked.TheVariants.{Make, Robust}
 use Rattle.gic_study.specs.Answers.{Call, AsksFor}
 use Rattle.gic_study.proofs.Accepting.{Holds, Any, then_holds, anyway, reading_holds, made_holds}
 
@@ -26,13 +26,9 @@ module _ (contents : Contents) where
   none_made o make h = made_holds Any IsMadeInRange o make (anyway o) (λ inputs any. h inputs)
 
   asking_in_range : (r : Request) → CanBeMade r → Holds IsMadeInRange (asking r contents)
-  asking_in_range (request.Volts r) can = none_made _ Volts (λ inputs. tt)
-  asking_in_range (request.List case) can = none_made _ ListAsked (λ inputs. tt)
-  asking_in_range (request.Check r) can = none_made _ Check (λ inputs. tt)
-  asking_in_range (request.Field r) can = none_made _ Field (λ inputs. tt)
-  asking_in_range (request.Screen r) can = none_made _ Screen (λ inputs. tt)
-  asking_in_range (request.Certify r) can = none_made _ Certify (λ inputs. tt)
-  asking_in_range (request.Outage r) can = none_made _ Outage (λ inputs. tt)
+  asking_in_range (request.Network m r) can =
+      then_holds Any IsMadeInRange (reading_case (contents file.Case)) (λ lists. asking_network m r lists contents) (anyway (reading_case (contents file.Case)))
+      (λ lists any. made_holds Any IsMadeInRange (reading_switchings r.switch lists contents) (network_given m r lists) (anyway (reading_switchings r.switch lists contents)) (λ rows other. tt))
   asking_in_range (request.Study r) can =
       then_holds Any IsMadeInRange (reading_case (contents file.Case)) (λ lists. asking_study r lists contents) (anyway (reading_case (contents file.Case)))
       (λ lists any. made_holds Any IsMadeInRange _ (study_given r) (anyway (reading_over r.switch _ lists contents)) (λ inputs other. tt))
@@ -44,7 +40,6 @@ module _ (contents : Contents) where
       then_holds Any IsMadeInRange (reading_case (contents file.Case)) (λ lists. asking_series r lists contents) (anyway (reading_case (contents file.Case)))
       (λ lists any. then_holds Any IsMadeInRange (reading (λ refusal. refusal) (transformer_asked lists r.transformer)) _ (anyway (reading (λ refusal. refusal) (transformer_asked lists r.transformer)))
       (λ place other. made_holds Any IsMadeInRange _ (series_given r place) (anyway (reading_over r.switch _ lists contents)) (λ inputs more. tt)))
-  asking_in_range (request.Review case) can = none_made _ Review (λ inputs. tt)
   asking_in_range (request.Robust r) can = none_made _ Robust (λ inputs. tt)
 
 outcome_in_range : MadeInRange → (words : List (List ℕ)) (contents : Contents) → Holds IsMadeInRange (outcome words contents)

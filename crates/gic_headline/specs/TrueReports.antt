@@ -16,8 +16,12 @@ use Rattle.gic_criteria.specs.declared.asked.RobustCriteria.{RobustCriteria}
 use Rattle.gic_criteria.specs.declared.asked.UniformField.{UniformField}
 use Rattle.gic_inputs.specs.declared.inputs.Inputs.{Inputs}
 use Rattle.gic_inputs.specs.declared.inputs.StormInputs.{StormInputs}
+use Rattle.gic_ask.specs.Network.{inputs_over}
+use Rattle.gic_ask.specs.declared.request.NetworkAsked.{NetworkAsked}
 use Rattle.gic_ask.specs.declared.request.Asked.{Asked}
-use Rattle.gic_ask.specs.declared.request.Asked.TheVariants.{Volts, List as ListAsked, Check, Field, Screen, Certify, Outage, Study, Make, Recheck, Series, Review, Robust}
+use Rattle.gic_ask.specs.declared.request.Asked.TheVariants.{Network, Study, Make, Recheck, Series, Robust}
+use Rattle.gic_words.specs.declared.mode.NetworkMode.{NetworkMode}
+use Rattle.gic_words.specs.declared.mode.NetworkMode.TheVariants as mode
 use Rattle.gic_monitor.specs.DwellText.{dwell_text}
 use Rattle.gic_monitor.specs.EarthText.{earth_text}
 use Rattle.gic_monitor.specs.RosterView.{RosterView}
@@ -136,18 +140,22 @@ pub record IsTrueRecheck (inputs : Inputs (Unit {0})) (bytes text : List ℕ) : 
       IsRightNode (standing_of inputs.case inputs.switchings) (certificate_volts inputs.case report.certificate) k (potential_of report.certificate k)
   pub solved : HasOneSolution (standing_of inputs.case inputs.switchings) (certificate_volts inputs.case report.certificate)
 
--- one row a mode: the voltages, the elements and the findings of `volts`, `list` and `review` are exact, and speak of no solution
+-- one row a mode over the network of a case, each by what it has a use for: the field, the criteria, both or neither. The voltages, the elements and the findings of `volts`, `list` and `review` are exact, and speak of no solution
+abbrev pub IsTrueOver : NetworkMode → NetworkAsked → (text : List ℕ) → Type 0
+IsTrueOver mode.Volts a = IsRightVolts (inputs_over a.question.field a)
+IsTrueOver mode.List a = IsRightList (inputs_over (tt {0}) a)
+IsTrueOver mode.Check a = IsTrueCheck (inputs_over (tt {0}) a)
+IsTrueOver mode.Field a = IsTrueField (inputs_over a.question a)
+IsTrueOver mode.Screen a = IsTrueScreen (inputs_over a.question.criteria a)
+IsTrueOver mode.Certify a = IsTrueCertify (inputs_over a.question.field a)
+IsTrueOver mode.Outage a = IsTrueOutage (inputs_over a.question.criteria a)
+IsTrueOver mode.Review a = IsRightReview (inputs_over (tt {0}) a)
+
+-- one row for these, and one for each other mode
 abbrev pub IsTrueReport : Plans → Asked → (text : List ℕ) → Type 0
-IsTrueReport plans (Volts inputs) = IsRightVolts inputs
-IsTrueReport plans (ListAsked inputs) = IsRightList inputs
-IsTrueReport plans (Check inputs) = IsTrueCheck inputs
-IsTrueReport plans (Field inputs) = IsTrueField inputs
-IsTrueReport plans (Screen inputs) = IsTrueScreen inputs
-IsTrueReport plans (Certify inputs) = IsTrueCertify inputs
-IsTrueReport plans (Outage inputs) = IsTrueOutage inputs
+IsTrueReport plans (Network m a) = IsTrueOver m a
 IsTrueReport plans (Study asked) = IsTrueStudy asked.inputs asked.detail plans
 IsTrueReport plans (Make r) = IsTrueMake r.seed r.size
 IsTrueReport plans (Recheck asked) = IsTrueRecheck asked.inputs asked.certificate
 IsTrueReport plans (Series asked) = IsTrueSeries asked.inputs asked.transformer
-IsTrueReport plans (Review inputs) = IsRightReview inputs
 IsTrueReport plans (Robust inputs) = IsTrueRobust inputs

@@ -53,7 +53,7 @@ pub fn headline_law()
     accepted_is_reported_law();
 }
 
-/// So does every run of the program, or it ends at once since memory ran out.
+/// So does every run of the program.
 pub fn program_headline_law()
     ensures { EachRunKeepsTheHeadline }
 {

@@ -1,5 +1,5 @@
 -- The case of what is asked for is sound.
-use Rattle.std.proofs.Common.{◌≡◌, ℕ, List, Option, None, Result, Ok, Err, refl, subst, arith}
+use Rattle.std.proofs.Common.{◌≡◌, ℕ, List, Option, Result, Ok, Err, refl, subst, arith}
 use Rattle.std.specs.Prelude.{IfOk}
 use Rattle.gic_case.specs.Lists.{Lists}
 use Rattle.gic_case.specs.Sound.{IsSound}
@@ -12,14 +12,14 @@ use Rattle.gic_words.specs.Requests.{request_of}
 use Rattle.gic_words.specs.declared.request.Request.{Request}
 use Rattle.gic_words.specs.declared.request.Request.TheVariants as request
 use Rattle.gic_ask.specs.Contents.{Contents}
-use Rattle.gic_ask.specs.Outcome.{Accepts, ◌>>=◌, reading, handing, reading_case, reading_storm, reading_switchings, reading_certificate, reading_inputs, reading_network, reading_after_storm, reading_over, transformer_asked, asking, asking_study, asking_recheck, asking_series, outcome, recheck_given, series_given, study_given}
+use Rattle.gic_ask.specs.Outcome.{Accepts, ◌>>=◌, reading, handing, reading_case, reading_storm, reading_switchings, reading_certificate, reading_inputs, reading_network, reading_after_storm, reading_over, transformer_asked, asking, asking_network, asking_study, asking_recheck, asking_series, outcome, network_given, recheck_given, series_given, study_given}
 use Rattle.gic_ask.specs.declared.fault.File.TheVariants as file
 use Rattle.gic_ask.specs.declared.fault.InputRefusal.TheVariants as refusals
 use Rattle.gic_inputs.specs.declared.inputs.Inputs.{Inputs}
 use Rattle.gic_inputs.specs.declared.inputs.StormInputs.{StormInputs}
 use Rattle.gic_criteria.specs.declared.asked.Criteria.{Criteria}
 use Rattle.gic_ask.specs.declared.request.Asked.{Asked}
-use Rattle.gic_ask.specs.declared.request.Asked.TheVariants.{Volts, List as ListAsked, Check, Field, Screen, Certify, Outage, Study, Make, Recheck, Series, Review, Robust}
+use Rattle.gic_ask.specs.declared.request.Asked.TheVariants.{Robust}
 use Rattle.gic_study.specs.Laws.{case_asked, AskedCasesAreSound}
 use Rattle.gic_study.proofs.Accepting.{Holds, Any, then_holds, anyway, reading_holds, made_holds}
 
@@ -60,13 +60,9 @@ module _ (accepted : AcceptedCasesAreSound) (made : MadeCasesAreSound) (contents
   over_network switch question make h = made_holds IsOverSound IsAskedSound (reading_network switch question contents) make (network_sound switch question) h
 
   asking_sound : (r : Request) → CanBeMade r → Holds IsAskedSound (asking r contents)
-  asking_sound (request.Volts r) can = over_network None _ Volts (λ inputs sound. sound)
-  asking_sound (request.List case) can = over_network None _ ListAsked (λ inputs sound. sound)
-  asking_sound (request.Check r) can = over_network r.switch _ Check (λ inputs sound. sound)
-  asking_sound (request.Field r) can = over_network r.switch _ Field (λ inputs sound. sound)
-  asking_sound (request.Screen r) can = over_network r.switch _ Screen (λ inputs sound. sound)
-  asking_sound (request.Certify r) can = over_network r.switch _ Certify (λ inputs sound. sound)
-  asking_sound (request.Outage r) can = over_network r.switch _ Outage (λ inputs sound. sound)
+  asking_sound (request.Network m r) can =
+      then_holds IsSound IsAskedSound (reading_case (contents file.Case)) (λ lists. asking_network m r lists contents) case_sound
+      (λ lists sound. made_holds Any IsAskedSound (reading_switchings r.switch lists contents) (network_given m r lists) (anyway (reading_switchings r.switch lists contents)) (λ rows any. sound))
   asking_sound (request.Study r) can =
       then_holds IsSound IsAskedSound (reading_case (contents file.Case)) (λ lists. asking_study r lists contents) case_sound
       (λ lists sound. made_holds IsStormOverSound IsAskedSound _ (study_given r) (over_sound r.switch _ lists sound) (λ inputs is_sound. is_sound))
@@ -79,7 +75,6 @@ module _ (accepted : AcceptedCasesAreSound) (made : MadeCasesAreSound) (contents
       then_holds IsSound IsAskedSound (reading_case (contents file.Case)) (λ lists. asking_series r lists contents) case_sound
       (λ lists sound. then_holds Any IsAskedSound (reading (λ refusal. refusal) (transformer_asked lists r.transformer)) _ (anyway (reading (λ refusal. refusal) (transformer_asked lists r.transformer)))
       (λ place any. made_holds IsStormOverSound IsAskedSound _ (series_given r place) (over_sound r.switch _ lists sound) (λ inputs is_sound. is_sound)))
-  asking_sound (request.Review case) can = over_network None _ Review (λ inputs sound. sound)
   asking_sound (request.Robust r) can = over_network r.switch _ Robust (λ inputs sound. sound)
 
 outcome_sound : MadeInRange → AcceptedCasesAreSound → MadeCasesAreSound → (words : List (List ℕ)) (contents : Contents) → Holds IsAskedSound (outcome words contents)

@@ -11,14 +11,14 @@ use Rattle.gic_words.specs.Requests.{request_of}
 use Rattle.gic_words.specs.declared.request.Request.{Request}
 use Rattle.gic_words.specs.declared.request.Request.TheVariants as request
 use Rattle.gic_ask.specs.Contents.{Contents}
-use Rattle.gic_ask.specs.Outcome.{Outcome, Accepts, ◌>>=◌, reading, handing, reading_case, reading_storm, reading_switchings, reading_certificate, reading_network, reading_after_storm, reading_over, transformer_asked, asking, asking_study, asking_recheck, asking_series, outcome, recheck_given, series_given, study_given}
+use Rattle.gic_ask.specs.Outcome.{Outcome, Accepts, ◌>>=◌, reading, handing, reading_case, reading_storm, reading_switchings, reading_certificate, reading_network, reading_after_storm, reading_over, transformer_asked, asking, asking_network, asking_study, asking_recheck, asking_series, outcome, network_given, recheck_given, series_given, study_given}
 use Rattle.gic_ask.specs.declared.fault.File.TheVariants as file
 use Rattle.gic_ask.specs.declared.fault.InputRefusal.TheVariants as refusals
 use Rattle.gic_inputs.specs.declared.inputs.Inputs.{Inputs}
 use Rattle.gic_inputs.specs.declared.inputs.StormInputs.{StormInputs}
 use Rattle.gic_criteria.specs.declared.asked.Criteria.{Criteria}
 use Rattle.gic_ask.specs.declared.request.Asked.{Asked}
-use Rattle.gic_ask.specs.declared.request.Asked.TheVariants.{Volts, List as ListAsked, Check, Field, Screen, Certify, Outage, Study, Make, Recheck, Series, Review, Robust}
+use Rattle.gic_ask.specs.declared.request.Asked.TheVariants.{Robust}
 use Rattle.gic_study.specs.Laws.{StormHasStep, AskedStormsHaveSteps}
 use Rattle.gic_study.proofs.Accepting.{Holds, Any, then_holds, anyway, reading_holds, made_holds}
 
@@ -52,13 +52,9 @@ module _ (accepted : AcceptedStormsHaveSteps) (contents : Contents) where
   no_storm o make h = made_holds Any StormHasStep o make (anyway o) (λ inputs any. h inputs)
 
   asking_stepped : (r : Request) → Holds StormHasStep (asking r contents)
-  asking_stepped (request.Volts r) = no_storm _ Volts (λ inputs. tt)
-  asking_stepped (request.List case) = no_storm _ ListAsked (λ inputs. tt)
-  asking_stepped (request.Check r) = no_storm _ Check (λ inputs. tt)
-  asking_stepped (request.Field r) = no_storm _ Field (λ inputs. tt)
-  asking_stepped (request.Screen r) = no_storm _ Screen (λ inputs. tt)
-  asking_stepped (request.Certify r) = no_storm _ Certify (λ inputs. tt)
-  asking_stepped (request.Outage r) = no_storm _ Outage (λ inputs. tt)
+  asking_stepped (request.Network m r) =
+      then_holds Any StormHasStep (reading_case (contents file.Case)) (λ lists. asking_network m r lists contents) (anyway (reading_case (contents file.Case)))
+      (λ lists any. made_holds Any StormHasStep (reading_switchings r.switch lists contents) (network_given m r lists) (anyway (reading_switchings r.switch lists contents)) (λ rows other. tt))
   asking_stepped (request.Study r) =
       then_holds Any StormHasStep (reading_case (contents file.Case)) (λ lists. asking_study r lists contents) (anyway (reading_case (contents file.Case)))
       (λ lists any. made_holds IsOverStepped StormHasStep _ (study_given r) (over_stepped r.switch _ lists) (λ inputs some. record { least = omega arith; most = some }))
@@ -71,7 +67,6 @@ module _ (accepted : AcceptedStormsHaveSteps) (contents : Contents) where
       then_holds Any StormHasStep (reading_case (contents file.Case)) (λ lists. asking_series r lists contents) (anyway (reading_case (contents file.Case)))
       (λ lists any. then_holds Any StormHasStep (reading (λ refusal. refusal) (transformer_asked lists r.transformer)) _ (anyway (reading (λ refusal. refusal) (transformer_asked lists r.transformer)))
       (λ place other. made_holds IsOverStepped StormHasStep _ (series_given r place) (over_stepped r.switch _ lists) (λ inputs some. record { least = omega arith; most = some })))
-  asking_stepped (request.Review case) = no_storm _ Review (λ inputs. tt)
   asking_stepped (request.Robust r) = no_storm _ Robust (λ inputs. tt)
 
 outcome_stepped : AcceptedStormsHaveSteps → (words : List (List ℕ)) (contents : Contents) → Holds StormHasStep (outcome words contents)

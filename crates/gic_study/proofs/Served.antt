@@ -1,15 +1,21 @@
 -- What is asked for was served, by the call of its mode.
-use Rattle.std.proofs.Common.{◌≡◌, ℕ, ◌<◌, List, length, Result, Ok, Err, sym, subst}
+use Rattle.std.proofs.Common.{◌≡◌, ℕ, ◌<◌, false, List, length, Result, Ok, Err, sym, subst, arith}
 use Rattle.std.specs.Prelude.{IfOk, IsErrAnd}
+use Rattle.std.specs.Io.KnownBytes.{Keeps}
 use Rattle.gic_base.proofs.Parts.{keeps-refl}
 use Rattle.gic_stand.specs.Serves.{Shown}
 use Rattle.gic_stand.specs.declared.fault.ReportFault.{ReportFault}
 use Rattle.gic_stand.specs.declared.fault.ReportFault.TheVariants.{Refused, CannotWrite}
+use Rattle.gic_ask.specs.Network.{inputs_over}
 use Rattle.gic_ask.specs.declared.request.Asked.{Asked}
+use Rattle.gic_ask.specs.declared.request.NetworkAsked.{NetworkAsked}
+use Rattle.gic_stand.specs.Needs.{Need}
 use Rattle.gic_ask.specs.declared.request.RecheckAsked.{RecheckAsked}
 use Rattle.gic_ask.specs.declared.request.StudyAsked.{StudyAsked}
-use Rattle.gic_ask.specs.declared.request.Asked.TheVariants.{Study, Recheck}
+use Rattle.gic_ask.specs.declared.request.Asked.TheVariants.{Network, Study, Make, Recheck, Series, Robust}
+use Rattle.gic_words.specs.declared.mode.NetworkMode.{NetworkMode}
 use Rattle.gic_inputs.proofs.Answered.{answered}
+use Rattle.gic_inputs.specs.declared.inputs.Inputs.{Inputs}
 use Rattle.gic_monitor.specs.RosterView.{RosterView}
 use Rattle.gic_view.specs.View.{View}
 use Rattle.gic_recheck.specs.RightRecheck.{ServesRecheck}
@@ -21,10 +27,12 @@ use Rattle.gic_study_mode.specs.ServesStudy.{ServesStudy}
 use Rattle.gic_study_mode.specs.declared.fault.StudyFault.{StudyFault}
 use Rattle.gic_study_mode.specs.declared.fault.StudyFault.TheVariants as study
 use Rattle.gic_study_mode.proofs.RightStudies.{by_plans}
-use Rattle.gic_study.specs.Concluding.{Answer, ServesMeaning, Concludes}
-use Rattle.gic_study.specs.ModeCalls.{reported, studied, rechecked}
-use Rattle.gic_study.specs.declared.fault.Fault.TheVariants.{Memory}
-use Rattle.gic_study.specs.declared.fault.Wanting.TheVariants.{Workspace}
+use Rattle.gic_study.specs.Concluding.{Answer, ServesMeaning, MayLackMemory, Concludes}
+use Rattle.gic_study.specs.ModeCalls.{ServesMade, ServesNetwork, ServesOver, reported, told, studied, rechecked}
+use Rattle.gic_study.specs.ProgramPlans.{is_study}
+use Rattle.gic_study.specs.declared.fault.Fault.TheVariants.{Input, Report, Certificate, Memory}
+use Rattle.gic_study.specs.declared.fault.Wanting.{Wanting}
+use Rattle.gic_study.specs.declared.fault.Wanting.TheVariants.{Workspace, Texts}
 use Rattle.gic_study.specs.Modes.{Plans, meaning_of}
 
 -- what is said of a workspace that was made
@@ -49,6 +57,51 @@ concludes_reported plans asked before now (Err fault) served = served
 pub by_report : (plans : Plans) (asked : Asked) (before now : Shown) (answer : Result (Unit {0}) ReportFault) (whole : Answer)
     → ServesMeaning (meaning_of asked) plans before now answer → whole ≡ reported answer → Concludes plans asked before now whole
 by_report plans asked before now answer whole served ends = subst (Concludes plans asked before now) (sym ends) (concludes_reported plans asked before now answer served)
+
+-- how a call ends whose workspace may not have been made
+pub by_told : {E : Type 0} (plans : Plans) (asked : Asked) (before now : Shown) (answer : Result (Result (Unit {0}) ReportFault) E) (whole : Answer)
+    → ServesMade (meaning_of asked).need (meaning_of asked).case (meaning_of asked).steps ((meaning_of asked).IsRight plans) before now answer → whole ≡ told answer
+    → Concludes plans asked before now whole
+by_told plans asked before now (Ok answer) whole served ends = by_report plans asked before now answer whole served ends
+by_told plans asked before now (Err e) whole served ends =
+    subst (Concludes plans asked before now) (sym ends) (tt, subst (λ (s : Shown). Keeps before.bytes s.bytes) (sym served) (keeps-refl before.bytes))
+
+-- the report of a mode over the network of a case, by what it is asked of the network
+pub of_mode : {Q E : Type 0} (mode is_mode : NetworkMode) (a : NetworkAsked) (question : Q) (need : Need) (IsRight : Inputs Q → List ℕ → Type 0) (before now : Shown)
+    (answer : Result (Result (Unit {0}) ReportFault) E) → mode ≡ is_mode → (ServesOver need IsRight (inputs_over question a) before now answer → ServesNetwork is_mode a before now answer)
+    → (over : Inputs Q) → over ≡ inputs_over question a → ServesOver need IsRight over before now answer → ServesNetwork mode a before now answer
+of_mode {Q = Q} mode is_mode a question need IsRight before now answer is same over over_is served =
+    subst (λ (m : NetworkMode). ServesNetwork m a before now answer) (sym is) (same (subst (λ (i : Inputs Q). ServesOver need IsRight i before now answer) over_is served))
+
+-- what is said of a question is said of the inputs that are asked it
+pub over_asked : {Q : Type 0} (a : NetworkAsked) (question : Q) (P : Q → Type 0) (over : Inputs Q) → over ≡ inputs_over question a → P question → P over.question
+over_asked {Q = Q} a question P over is holds = subst (λ (i : Inputs Q). P i.question) (sym is) holds
+
+-- what is no study ends as it does whatever monitors plan
+lacks_alike : (plans others : Plans) (wanting : Wanting) (asked : Asked) → is_study asked ≡ false → MayLackMemory plans wanting asked → MayLackMemory others wanting asked
+lacks_alike plans others Workspace asked none lacks = tt
+lacks_alike plans others Texts (Study given) none lacks = absurd (grind (arith, none))
+lacks_alike plans others Texts (Network m inputs) none lacks = lacks
+lacks_alike plans others Texts (Make request) none lacks = lacks
+lacks_alike plans others Texts (Recheck given) none lacks = lacks
+lacks_alike plans others Texts (Series given) none lacks = lacks
+lacks_alike plans others Texts (Robust inputs) none lacks = lacks
+
+serves_alike : (plans others : Plans) (asked : Asked) (before now : Shown) (answer : Result (Unit {0}) ReportFault) → is_study asked ≡ false
+    → ServesMeaning (meaning_of asked) plans before now answer → ServesMeaning (meaning_of asked) others before now answer
+serves_alike plans others (Study given) before now answer none served = absurd (grind (arith, none))
+serves_alike plans others (Network m inputs) before now answer none served = served
+serves_alike plans others (Make request) before now answer none served = served
+serves_alike plans others (Recheck given) before now answer none served = served
+serves_alike plans others (Series given) before now answer none served = served
+serves_alike plans others (Robust inputs) before now answer none served = served
+
+pub whatever_plans : (plans others : Plans) (asked : Asked) (before now : Shown) (answer : Answer) → is_study asked ≡ false → Concludes plans asked before now answer → Concludes others asked before now answer
+whatever_plans plans others asked before now (Ok done) none ended = serves_alike plans others asked before now (Ok done) none ended
+whatever_plans plans others asked before now (Err (Report fault)) none ended = serves_alike plans others asked before now (Err fault) none ended
+whatever_plans plans others asked before now (Err (Certificate refusal)) none ended = ended
+whatever_plans plans others asked before now (Err (Memory wanting)) none ended = (lacks_alike plans others wanting asked none ended.0, ended.1)
+whatever_plans plans others asked before now (Err (Input fault)) none ended = absurd ended
 
 -- by the plans of monitors that have begun
 concludes_studied : (plans : Plans) (given : StudyAsked) (outlooks : List View → List (List ℕ)) (monitors : ℕ) (before now : Shown) (answer : Result (Unit {0}) StudyFault)

@@ -25,7 +25,7 @@ use Rattle.gic_ask.specs.declared.fault.InputFault.TheVariants.{Refused, CannotR
 use Rattle.gic_ask.specs.declared.fault.InputRefusal.{InputRefusal}
 use Rattle.gic_ask.specs.declared.fault.InputRefusal.TheVariants.{Usage, TooLong, Case, UnknownTransformer, Storm, Switch}
 use Rattle.gic_ask.specs.declared.request.Asked.{Asked}
-use Rattle.gic_ask.specs.declared.request.Asked.TheVariants.{Volts, List as ListAsked, Check, Field, Screen, Certify, Outage, Study, Make, Recheck, Series, Review, Robust}
+use Rattle.gic_ask.specs.declared.request.Asked.TheVariants.{Network, Study, Make, Recheck, Series, Robust}
 use Rattle.gic_course.specs.Steps.{IsStepOf}
 use Rattle.gic_stand.specs.Needs.{Need, IsMet, IsUnmet}
 use Rattle.gic_stand.specs.Standing.{standing_of}
@@ -44,18 +44,11 @@ use Rattle.gic_study.specs.declared.fault.Wanting.{Wanting}
 
 -- its mode
 abbrev pub mode_asked : Asked → Mode
-mode_asked (Volts inputs) = mode.Volts
-mode_asked (ListAsked inputs) = mode.List
-mode_asked (Check inputs) = mode.Check
-mode_asked (Field inputs) = mode.Field
-mode_asked (Screen inputs) = mode.Screen
-mode_asked (Certify inputs) = mode.Certify
-mode_asked (Outage inputs) = mode.Outage
+mode_asked (Network m a) = mode.Network m
 mode_asked (Study asked) = mode.Study
 mode_asked (Make r) = mode.Make
 mode_asked (Recheck asked) = mode.Recheck
 mode_asked (Series asked) = mode.Series
-mode_asked (Review inputs) = mode.Review
 mode_asked (Robust inputs) = mode.Robust
 
 abbrev pub need_of : Asked → Need

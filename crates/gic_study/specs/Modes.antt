@@ -6,8 +6,15 @@ use Rattle.gic_inputs.specs.declared.inputs.Inputs.{Inputs}
 use Rattle.gic_inputs.specs.declared.inputs.StormInputs.{StormInputs}
 use Rattle.gic_stand.specs.Needs.{Need, Nothing, Earthed, Solved}
 use Rattle.gic_stand.specs.Standing.{standing_of, steps_of}
+use Rattle.gic_ask.specs.Network.{inputs_over}
+use Rattle.gic_ask.specs.declared.request.NetworkAsked.{NetworkAsked}
 use Rattle.gic_ask.specs.declared.request.Asked.{Asked}
-use Rattle.gic_ask.specs.declared.request.Asked.TheVariants.{Volts, List as ListAsked, Check, Field, Screen, Certify, Outage, Study, Make, Recheck, Series, Review, Robust}
+use Rattle.gic_ask.specs.declared.request.Asked.TheVariants.{Network, Study, Make, Recheck, Series, Robust}
+use Rattle.gic_criteria.specs.declared.asked.Criteria.{Criteria}
+use Rattle.gic_criteria.specs.declared.asked.Question.{Question}
+use Rattle.gic_criteria.specs.declared.asked.UniformField.{UniformField}
+use Rattle.gic_words.specs.declared.mode.NetworkMode.{NetworkMode}
+use Rattle.gic_words.specs.declared.mode.NetworkMode.TheVariants as mode
 use Rattle.gic_make.specs.MadeCase.{made_case}
 use Rattle.gic_volts.specs.RightVolts.{IsRightVolts}
 use Rattle.gic_list.specs.RightList.{IsRightList}
@@ -49,20 +56,42 @@ over_network need IsRight inputs = record { need = need; case = inputs.case; ste
 abbrev over_storm : StormInputs → (Plans → (text : List ℕ) → Type 0) → Meaning
 over_storm inputs IsRight = record { need = Solved; case = inputs.case; steps = storm_steps inputs; IsRight = IsRight }
 
--- one row a mode
+-- a mode over the network of a case: what it needs of it, and when a text is right
+pub record NetworkMeaning : Type 1 where
+  pub need : Need
+  pub IsRight : NetworkAsked → (text : List ℕ) → Type 0
+
+-- of a mode that has a use for a field and criteria, for one of them, or for neither
+abbrev by_question : Need → (Inputs Question → (text : List ℕ) → Type 0) → NetworkMeaning
+by_question need IsRight = record { need = need; IsRight = λ a. IsRight (inputs_over a.question a) }
+
+abbrev by_field : Need → (Inputs UniformField → (text : List ℕ) → Type 0) → NetworkMeaning
+by_field need IsRight = record { need = need; IsRight = λ a. IsRight (inputs_over a.question.field a) }
+
+abbrev by_criteria : Need → (Inputs Criteria → (text : List ℕ) → Type 0) → NetworkMeaning
+by_criteria need IsRight = record { need = need; IsRight = λ a. IsRight (inputs_over a.question.criteria a) }
+
+abbrev by_network : Need → (Inputs (Unit {0}) → (text : List ℕ) → Type 0) → NetworkMeaning
+by_network need IsRight = record { need = need; IsRight = λ a. IsRight (inputs_over (tt {0}) a) }
+
+-- one row a mode over the network of a case
+abbrev pub network_meaning : NetworkMode → NetworkMeaning
+network_meaning mode.Volts = by_field Nothing IsRightVolts
+network_meaning mode.List = by_network Nothing IsRightList
+network_meaning mode.Check = by_network Earthed IsRightCheck
+network_meaning mode.Field = by_question Solved IsRightField
+network_meaning mode.Screen = by_criteria Solved IsRightScreen
+network_meaning mode.Certify = by_field Solved IsRightCertify
+network_meaning mode.Outage = by_criteria Solved IsRightOutage
+network_meaning mode.Review = by_network Nothing IsRightReview
+
+-- one row for these, and one for each other mode
 abbrev pub meaning_of : Asked → Meaning
-meaning_of (Volts inputs) = over_network Nothing IsRightVolts inputs
-meaning_of (ListAsked inputs) = over_network Nothing IsRightList inputs
-meaning_of (Check inputs) = over_network Earthed IsRightCheck inputs
-meaning_of (Field inputs) = over_network Solved IsRightField inputs
-meaning_of (Screen inputs) = over_network Solved IsRightScreen inputs
-meaning_of (Certify inputs) = over_network Solved IsRightCertify inputs
-meaning_of (Outage inputs) = over_network Solved IsRightOutage inputs
+meaning_of (Network m a) = record { need = (network_meaning m).need; case = a.case; steps = standing_of a.case a.switchings ∷ []; IsRight = λ plans. (network_meaning m).IsRight a }
 meaning_of (Study asked) = over_storm asked.inputs (IsRightStudy asked.inputs asked.detail)
 meaning_of (Make r) = record { need = Nothing; case = made_case r.seed r.size; steps = standing_of (made_case r.seed r.size) None ∷ []; IsRight = λ plans. IsRightMake r.seed r.size }
 meaning_of (Recheck asked) = over_network Nothing (λ i. IsRightRecheck i asked.certificate) asked.inputs
 meaning_of (Series asked) = over_storm asked.inputs (λ plans. IsRightSeries asked.inputs asked.transformer)
-meaning_of (Review inputs) = over_network Nothing IsRightReview inputs
 meaning_of (Robust inputs) = record { need = Solved; case = inputs.case; steps = most_steps inputs; IsRight = λ plans. IsRightRobust inputs }
 
 -- a text is a right report of what is asked for

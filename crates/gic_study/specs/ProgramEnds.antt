@@ -1,5 +1,5 @@
 -- How the program ends.
-use Rattle.std.specs.Prelude.{◌≡◌, ℕ, List, ◌⊎◌}
+use Rattle.std.specs.Prelude.{◌≡◌, ℕ, List}
 use Rattle.std.specs.declared.option.Option.{Option}
 use Rattle.std.specs.declared.io.ErrorKind.{ErrorKind}
 use Rattle.std.specs.declared.io.ErrorKind.TheVariants.{OutOfMemory}
@@ -12,10 +12,9 @@ pub record EndsAtOnce (code : ℕ) (before now : Moment) (status : ℕ) : Type 0
   pub status_is : status ≡ code
   pub kept : now ≡ before
 
--- with these words: as the top call with the program's monitors, or at once with 11 where memory is wanting for the monitors
+-- with these words: as the top call with the program's monitors
 abbrev pub ProgramEnds : (words : List (List ℕ)) (files : Option Files) (before now : Moment) (status : ℕ) → Type 0
-ProgramEnds words files before now status =
-    CallEnds (record { words = words; files = files; plans = program_plans; before = before; now = now }) status ⊎ EndsAtOnce 11 before now status
+ProgramEnds words files before now status = CallEnds (record { words = words; files = files; plans = program_plans; before = before; now = now }) status
 
 -- the status where the words can't be had: out of memory is told apart
 abbrev pub status_without_words : ErrorKind → ℕ

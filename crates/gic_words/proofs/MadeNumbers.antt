@@ -70,18 +70,11 @@ make_in_range rows =
     (λ size within. record { seed_fits = fits.1; size_fits = record { least = within.0; most = within.1 } }))
 
 made_by : (m : Mode) (rows : List Row) → IfOk (request_by m rows) CanBeMade
-made_by mode.Volts rows = as_other request.Volts _ (λ r. tt)
-made_by mode.List rows = as_other request.List _ (λ case. tt)
-made_by mode.Check rows = as_other request.Check _ (λ r. tt)
-made_by mode.Field rows = as_other request.Field _ (λ r. tt)
-made_by mode.Screen rows = as_other request.Screen _ (λ r. tt)
-made_by mode.Certify rows = as_other request.Certify _ (λ r. tt)
-made_by mode.Outage rows = as_other request.Outage _ (λ r. tt)
+made_by (mode.Network m) rows = as_other (request.Network m) _ (λ r. tt)
 made_by mode.Study rows = as_other request.Study _ (λ r. tt)
 made_by mode.Make rows = as_made request.Make _ (make_in_range rows)
 made_by mode.Recheck rows = as_other request.Recheck _ (λ r. tt)
 made_by mode.Series rows = as_other request.Series _ (λ r. tt)
-made_by mode.Review rows = as_other request.Review _ (λ case. tt)
 made_by mode.Robust rows = as_other request.Robust _ (λ r. tt)
 
 made_unless : (asked : Result Request Usage) (u : Option Usage) → IfOk asked CanBeMade → IfOk (unless_refused u asked) CanBeMade

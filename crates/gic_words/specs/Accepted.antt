@@ -1,7 +1,7 @@
 -- What accepted words give: what their mode requires, with numbers in their ranges.
 use Rattle.std.specs.Prelude.{ℕ, ◌≤◌, ◌≡◌, List, IsSome, IsOk, IfOk, IfSome, None, ⊤}
 use Rattle.clap.specs.Words.{Row}
-use Rattle.gic_criteria.specs.Ranges.{IsWidth, IsWithinCriteria, IsWithinField, IsWithinRobust}
+use Rattle.gic_criteria.specs.Ranges.{IsWidth, IsWithinCriteria, IsWithinRanges, IsWithinRobust}
 use Rattle.gic_words.specs.Command.{given}
 use Rattle.gic_words.specs.Requests.{first_fault, mode_in, number_given, request_by, request_of}
 use Rattle.gic_words.specs.Table.{all_options}
@@ -14,18 +14,11 @@ use Rattle.gic_words.specs.declared.request.Request.TheVariants as request
 
 -- what the mode requires is given
 abbrev pub HasRequiredOf : Mode → List Row → Type 0
-HasRequiredOf mode.Volts rows = IsSome (given rows Case)
-HasRequiredOf mode.List rows = IsSome (given rows Case)
-HasRequiredOf mode.Check rows = IsSome (given rows Case)
-HasRequiredOf mode.Field rows = IsSome (given rows Case)
-HasRequiredOf mode.Screen rows = IsSome (given rows Case)
-HasRequiredOf mode.Certify rows = IsSome (given rows Case)
-HasRequiredOf mode.Outage rows = IsSome (given rows Case)
+HasRequiredOf (mode.Network m) rows = IsSome (given rows Case)
 HasRequiredOf mode.Study rows = IsSome (given rows Case) × IsSome (given rows Storm)
 HasRequiredOf mode.Make rows = IsSome (number_given rows Seed) × IsSome (number_given rows Size)
 HasRequiredOf mode.Recheck rows = IsSome (given rows Case) × IsSome (given rows Cert)
 HasRequiredOf mode.Series rows = IsSome (given rows Case) × (IsSome (given rows Storm) × IsSome (given rows Transformer))
-HasRequiredOf mode.Review rows = IsSome (given rows Case)
 HasRequiredOf mode.Robust rows = IsSome (given rows Case) × IsSome (number_given rows Tolerance)
 
 -- an event that is given is one by its name
@@ -62,11 +55,7 @@ MadeInRange = (words : List (List ℕ)) → IfOk (request_of words) CanBeMade
 
 -- the numbers are in their ranges
 abbrev pub AreWithinRanges : Request → Type 0
-AreWithinRanges (request.Volts r) = IsWithinField r.field
-AreWithinRanges (request.Field r) = IsWithinField r.field × IsWithinCriteria r.criteria
-AreWithinRanges (request.Screen r) = IsWithinCriteria r.criteria
-AreWithinRanges (request.Certify r) = IsWithinField r.field
-AreWithinRanges (request.Outage r) = IsWithinCriteria r.criteria
+AreWithinRanges (request.Network m r) = IsWithinRanges r.question
 AreWithinRanges (request.Study r) = IsWithinCriteria r.criteria
 AreWithinRanges (request.Make r) = IsSize r.size
 AreWithinRanges (request.Series r) = IsWidth r.width

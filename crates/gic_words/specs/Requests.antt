@@ -14,11 +14,7 @@ use Rattle.gic_words.specs.declared.option.Form.TheVariants as form
 use Rattle.gic_words.specs.declared.mode.Mode.{Mode}
 use Rattle.gic_words.specs.declared.mode.Mode.TheVariants as mode
 use Rattle.gic_words.specs.declared.request.Request.{Request}
-use Rattle.gic_words.specs.declared.request.VoltsRequest.{VoltsRequest}
-use Rattle.gic_words.specs.declared.request.CheckRequest.{CheckRequest}
-use Rattle.gic_words.specs.declared.request.FieldRequest.{FieldRequest}
-use Rattle.gic_words.specs.declared.request.WorstRequest.{WorstRequest}
-use Rattle.gic_words.specs.declared.request.CertifyRequest.{CertifyRequest}
+use Rattle.gic_words.specs.declared.request.NetworkRequest.{NetworkRequest}
 use Rattle.gic_words.specs.declared.request.StudyRequest.{StudyRequest}
 use Rattle.gic_words.specs.declared.request.MakeRequest.{MakeRequest}
 use Rattle.gic_words.specs.declared.request.RecheckRequest.{RecheckRequest}
@@ -27,6 +23,7 @@ use Rattle.gic_words.specs.declared.request.RobustRequest.{RobustRequest}
 use Rattle.gic_words.specs.declared.request.Request.TheVariants as request
 use Rattle.gic_criteria.specs.Questions.{no_uniform_field, usual_criteria}
 use Rattle.gic_criteria.specs.declared.asked.Criteria.{Criteria}
+use Rattle.gic_criteria.specs.declared.asked.Question.{Question}
 use Rattle.gic_criteria.specs.declared.asked.UniformField.{UniformField}
 use Rattle.gic_words.specs.declared.mode.Use.{Use}
 use Rattle.gic_words.specs.declared.mode.Use.TheVariants.{Required, Allowed, Unused}
@@ -95,6 +92,10 @@ event_given rows = unwrap_or (option_and_then event_of (given rows Event)) usual
 abbrev pub criteria_given : List Row → Criteria
 criteria_given rows = record { width = width_given rows; event = event_given rows }
 
+-- the field and the criteria
+abbrev pub question_given : List Row → Question
+question_given rows = record { field = field_given rows; criteria = criteria_given rows }
+
 -- the text of an option that the mode requires
 abbrev pub text_of : List Row → Opt → Result (List ℕ) Usage
 text_of rows o = ok_or (given rows o) (usage.Missing o)
@@ -103,32 +104,13 @@ text_of rows o = ok_or (given rows o) (usage.Missing o)
 abbrev pub count_of : List Row → Opt → Result ℕ Usage
 count_of rows o = ok_or (count_given rows o) (usage.Missing o)
 
--- what each mode is asked
-abbrev pub volts_request : List Row → Result VoltsRequest Usage
-volts_request rows = do
+-- what a mode over the network of a case is asked: where it has no use for the switchings, the field, the width or the event, none is given
+abbrev pub network_request : List Row → Result NetworkRequest Usage
+network_request rows = do
   case ← text_of rows Case
-  Ok (record { case = case; field = field_given rows })
+  Ok (record { case = case; switch = given rows Switch; question = question_given rows })
 
-abbrev pub check_request : List Row → Result CheckRequest Usage
-check_request rows = do
-  case ← text_of rows Case
-  Ok (record { case = case; switch = given rows Switch })
-
-abbrev pub field_request : List Row → Result FieldRequest Usage
-field_request rows = do
-  case ← text_of rows Case
-  Ok (record { case = case; switch = given rows Switch; field = field_given rows; criteria = criteria_given rows })
-
-abbrev pub worst_request : List Row → Result WorstRequest Usage
-worst_request rows = do
-  case ← text_of rows Case
-  Ok (record { case = case; switch = given rows Switch; criteria = criteria_given rows })
-
-abbrev pub certify_request : List Row → Result CertifyRequest Usage
-certify_request rows = do
-  case ← text_of rows Case
-  Ok (record { case = case; switch = given rows Switch; field = field_given rows })
-
+-- what each other mode is asked
 abbrev pub study_request : List Row → Result StudyRequest Usage
 study_request rows = do
   case ← text_of rows Case
@@ -165,20 +147,13 @@ abbrev pub as_request : {A : Type 0} → (A → Request) → Result A Usage → 
 as_request make (Ok a) = Ok (make a)
 as_request make (Err u) = Err u
 
--- what is asked for; one row a mode
+-- what is asked for; one row for the modes over the network of a case, and one for each other
 abbrev pub request_by : Mode → List Row → Result Request Usage
-request_by mode.Volts rows = as_request request.Volts (volts_request rows)
-request_by mode.List rows = as_request request.List (text_of rows Case)
-request_by mode.Check rows = as_request request.Check (check_request rows)
-request_by mode.Field rows = as_request request.Field (field_request rows)
-request_by mode.Screen rows = as_request request.Screen (worst_request rows)
-request_by mode.Certify rows = as_request request.Certify (certify_request rows)
-request_by mode.Outage rows = as_request request.Outage (worst_request rows)
+request_by (mode.Network m) rows = as_request (request.Network m) (network_request rows)
 request_by mode.Study rows = as_request request.Study (study_request rows)
 request_by mode.Make rows = as_request request.Make (make_request rows)
 request_by mode.Recheck rows = as_request request.Recheck (recheck_request rows)
 request_by mode.Series rows = as_request request.Series (series_request rows)
-request_by mode.Review rows = as_request request.Review (text_of rows Case)
 request_by mode.Robust rows = as_request request.Robust (robust_request rows)
 
 -- ---- the words

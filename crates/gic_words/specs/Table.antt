@@ -8,6 +8,7 @@ use Rattle.gic_words.specs.declared.option.Form.{Form}
 use Rattle.gic_words.specs.declared.option.Form.TheVariants as form
 use Rattle.gic_words.specs.declared.mode.Mode.{Mode}
 use Rattle.gic_words.specs.declared.mode.Mode.TheVariants as mode
+use Rattle.gic_words.specs.declared.mode.NetworkMode.TheVariants as network
 use Rattle.gic_words.specs.declared.mode.Use.{Use}
 use Rattle.gic_words.specs.declared.mode.Use.TheVariants.{Required, Allowed, Unused}
 use Rattle.gic_words.specs.declared.option.Opt.{Opt}
@@ -76,18 +77,18 @@ mode_row m word required allowed = record { mode = m; word = word; required = re
 -- one row a mode
 abbrev pub mode_rows : List ModeRow
 mode_rows =
-    mode_row mode.Volts (codes "volts") (Case ∷ []) (North ∷ East ∷ [])
-    ∷ mode_row mode.List (codes "list") (Case ∷ []) []
-    ∷ mode_row mode.Check (codes "check") (Case ∷ []) (Switch ∷ [])
-    ∷ mode_row mode.Field (codes "field") (Case ∷ []) (North ∷ East ∷ Switch ∷ Width ∷ Event ∷ [])
-    ∷ mode_row mode.Screen (codes "screen") (Case ∷ []) (Switch ∷ Width ∷ Event ∷ [])
-    ∷ mode_row mode.Certify (codes "certify") (Case ∷ []) (North ∷ East ∷ Switch ∷ [])
-    ∷ mode_row mode.Outage (codes "outage") (Case ∷ []) (Switch ∷ Width ∷ Event ∷ [])
+    mode_row (mode.Network network.Volts) (codes "volts") (Case ∷ []) (North ∷ East ∷ [])
+    ∷ mode_row (mode.Network network.List) (codes "list") (Case ∷ []) []
+    ∷ mode_row (mode.Network network.Check) (codes "check") (Case ∷ []) (Switch ∷ [])
+    ∷ mode_row (mode.Network network.Field) (codes "field") (Case ∷ []) (North ∷ East ∷ Switch ∷ Width ∷ Event ∷ [])
+    ∷ mode_row (mode.Network network.Screen) (codes "screen") (Case ∷ []) (Switch ∷ Width ∷ Event ∷ [])
+    ∷ mode_row (mode.Network network.Certify) (codes "certify") (Case ∷ []) (North ∷ East ∷ Switch ∷ [])
+    ∷ mode_row (mode.Network network.Outage) (codes "outage") (Case ∷ []) (Switch ∷ Width ∷ Event ∷ [])
     ∷ mode_row mode.Study (codes "study") (Case ∷ Storm ∷ []) (Switch ∷ Width ∷ Detail ∷ Event ∷ [])
     ∷ mode_row mode.Make (codes "make") (Seed ∷ Size ∷ []) []
     ∷ mode_row mode.Recheck (codes "recheck") (Case ∷ Cert ∷ []) (Switch ∷ [])
     ∷ mode_row mode.Series (codes "series") (Case ∷ Storm ∷ Transformer ∷ []) (Switch ∷ Width ∷ [])
-    ∷ mode_row mode.Review (codes "review") (Case ∷ []) []
+    ∷ mode_row (mode.Network network.Review) (codes "review") (Case ∷ []) []
     ∷ mode_row mode.Robust (codes "robust") (Case ∷ Tolerance ∷ []) (Switch ∷ Width ∷ Event ∷ [])
     ∷ []
 

@@ -11,6 +11,7 @@ ghost use Rattle.gic_words.specs.Command.{given};
 ghost use Rattle.gic_words.specs.Table.{ModeRow, all_options, use_of};
 ghost use Rattle.gic_words.specs.Requests.{first_fault, request_of};
 ghost use Rattle.gic_words.specs.Accepted.{MadeInRange, RequiredIsGiven};
+ghost use Rattle.gic_words.specs.declared.mode.NetworkMode.TheVariants as network;
 ghost use Rattle.gic_words.specs.declared.request.Request.TheVariants as request;
 
 /// Where no fault is found, each option that the mode requires is given, so that no default stands for it.
@@ -45,9 +46,9 @@ pub fn refused_words_law()
 /// What some words ask for that are accepted.
 pub fn accepted_words_law()
     ensures both_fields { request_of (codes "volts" ∷ codes "--case=p" ∷ codes "--north=-500" ∷ codes "--east" ∷ codes "7" ∷ [])
-        ≡ Ok (request.Volts (record { case = codes "p"; field = record { north = negsuc 499; east = pos 7 } })) }
+        ≡ Ok (request.Network network.Volts (record { case = codes "p"; switch = None; question = record { field = record { north = negsuc 499; east = pos 7 }; criteria = usual_criteria } })) }
     ensures whole_field { request_of (codes "field" ∷ codes "--case=p" ∷ codes "--north=8000" ∷ codes "--east=-1" ∷ codes "--switch=s" ∷ codes "--width=10" ∷ codes "--event=supplemental" ∷ [])
-        ≡ Ok (request.Field (record { case = codes "p"; switch = Some (codes "s"); field = record { north = pos 8000; east = negsuc 0 }; criteria = record { width = 10; event = Supplemental } })) }
+        ≡ Ok (request.Network network.Field (record { case = codes "p"; switch = Some (codes "s"); question = record { field = record { north = pos 8000; east = negsuc 0 }; criteria = record { width = 10; event = Supplemental } } })) }
     ensures studied { request_of (codes "study" ∷ codes "--case=p" ∷ codes "--storm=s" ∷ codes "--switch=w" ∷ codes "--width=10" ∷ codes "--detail=20000" ∷ [])
         ≡ Ok (request.Study (record { case = codes "p"; storm = codes "s"; switch = Some (codes "w"); criteria = record usual_criteria { width = 10 }; detail = Some 20000 })) }
     ensures made { request_of (codes "make" ∷ codes "--seed=0" ∷ codes "--size=1000" ∷ []) ≡ Ok (request.Make (record { seed = 0; size = 1000 })) }

@@ -5,9 +5,10 @@ ghost use Rattle.gic_words.specs.Seen.{row_seen};
 
 use crate::option::Opt;
 
-/// What words may ask for.
+/// A mode over the network of a case with all rows of the switchings in force, which is asked a field and criteria, or has no
+/// use for one of them. All that is read for such a mode is the case and the switchings.
 #[derive(Clone, Copy, Debug, PartialEq, Eq)]
-pub enum Mode {
+pub enum NetworkMode {
     /// The voltage of each line in one field.
     Volts,
     /// The elements of the direct-current network.
@@ -22,6 +23,15 @@ pub enum Mode {
     Certify,
     /// The worst orientations once more without each line and without each transformer, one at a time.
     Outage,
+    /// What the case says that its writer may not have meant.
+    Review,
+}
+
+/// What words may ask for.
+#[derive(Clone, Copy, Debug, PartialEq, Eq)]
+pub enum Mode {
+    /// A report over the network of a case.
+    Network(NetworkMode),
     /// A storm over the network of a case, with the switchings in its course: peaks and verdicts.
     Study,
     /// A summary of a made case in the field of the benchmark event.
@@ -30,8 +40,6 @@ pub enum Mode {
     Recheck,
     /// One transformer at each step of a storm over the network of a case, with the switchings in its course.
     Series,
-    /// What the case says that its writer may not have meant.
-    Review,
     /// The worst orientations in all networks whose grounds lie within a tolerance, with verdicts.
     Robust,
 }
@@ -61,43 +69,43 @@ pub(crate) struct ModeRow {
 /// One row a mode.
 static ROWS: [ModeRow; 13] = [
     ModeRow {
-        mode: Mode::Volts,
+        mode: Mode::Network(NetworkMode::Volts),
         word: "volts",
         required: &[Opt::Case],
         allowed: &[Opt::North, Opt::East],
     },
     ModeRow {
-        mode: Mode::List,
+        mode: Mode::Network(NetworkMode::List),
         word: "list",
         required: &[Opt::Case],
         allowed: &[],
     },
     ModeRow {
-        mode: Mode::Check,
+        mode: Mode::Network(NetworkMode::Check),
         word: "check",
         required: &[Opt::Case],
         allowed: &[Opt::Switch],
     },
     ModeRow {
-        mode: Mode::Field,
+        mode: Mode::Network(NetworkMode::Field),
         word: "field",
         required: &[Opt::Case],
         allowed: &[Opt::North, Opt::East, Opt::Switch, Opt::Width, Opt::Event],
     },
     ModeRow {
-        mode: Mode::Screen,
+        mode: Mode::Network(NetworkMode::Screen),
         word: "screen",
         required: &[Opt::Case],
         allowed: &[Opt::Switch, Opt::Width, Opt::Event],
     },
     ModeRow {
-        mode: Mode::Certify,
+        mode: Mode::Network(NetworkMode::Certify),
         word: "certify",
         required: &[Opt::Case],
         allowed: &[Opt::North, Opt::East, Opt::Switch],
     },
     ModeRow {
-        mode: Mode::Outage,
+        mode: Mode::Network(NetworkMode::Outage),
         word: "outage",
         required: &[Opt::Case],
         allowed: &[Opt::Switch, Opt::Width, Opt::Event],
@@ -127,7 +135,7 @@ static ROWS: [ModeRow; 13] = [
         allowed: &[Opt::Switch, Opt::Width],
     },
     ModeRow {
-        mode: Mode::Review,
+        mode: Mode::Network(NetworkMode::Review),
         word: "review",
         required: &[Opt::Case],
         allowed: &[],

@@ -2,74 +2,36 @@
 ghost use Rattle.std.specs.Prelude.{◌≡◌, ◌≤◌, IfOk, IfSome, IsSome, Ok, Some, map, option_map, string_bytes, unsigned_abs};
 ghost use Rattle.clap.specs.Words.{rows_of, found_of};
 ghost use Rattle.gic_base.specs.declared.limits.TheConstants.{MOST_FIELD};
-ghost use Rattle.gic_criteria.specs.Ranges.{IsTolerance, IsWidth, IsWithinCriteria, IsWithinField, IsWithinRobust};
+ghost use Rattle.gic_criteria.specs.Ranges.{IsTolerance, IsWidth, IsWithinCriteria, IsWithinField, IsWithinRanges, IsWithinRobust};
 ghost use Rattle.gic_words.specs.Accepted.{AreWithinRanges, HasRequiredOf, IsSize, NamesEvent};
 ghost use Rattle.gic_words.specs.Command.{given};
 ghost use Rattle.gic_words.specs.Within.{IsWithinOption};
 ghost use Rattle.gic_words.specs.Requests.{number_given, count_given, part_given, field_given, width_given, event_given, criteria_given};
 ghost use Rattle.gic_words.specs.Requests.{mode_in};
-ghost use Rattle.gic_words.specs.Requests.{volts_request, check_request, field_request, worst_request, certify_request, study_request};
-ghost use Rattle.gic_words.specs.Requests.{make_request, recheck_request, series_request, robust_request};
+ghost use Rattle.gic_words.specs.Requests.{network_request, study_request, make_request, recheck_request, series_request, robust_request};
 ghost use Rattle.gic_words.specs.Requests.{request_by, request_of, request_of_rows};
 ghost use Rattle.gic_words.specs.Reads.{ReadsWords, KeepsTaken};
 ghost use Rattle.gic_words.specs.Seen.{row_seen};
 
 use crate::command::{ParseRefusal, mode_word, parse, value_of};
 use crate::fault::{Usage, WordsRefusal, first_fault};
-use crate::mode::{Mode, ModeRow};
+use crate::mode::{Mode, ModeRow, NetworkMode};
 use crate::name::{FileName, Text};
 use crate::option::Opt;
 use crate::value::{read_event, read_number};
 use clap::ArgMatches;
-use gic_criteria::{Criteria, Event, RobustCriteria, UniformField};
+use gic_criteria::{Criteria, Event, Question, RobustCriteria, UniformField};
 use std::alloc::{AllocError, Global};
 
-/// What `volts` is asked.
+/// What a mode over the network of a case is asked.
 #[derive(Drop)]
-pub struct VoltsRequest {
-    /// The name of the case's file.
-    pub case: FileName,
-    pub field: UniformField,
-}
-
-/// What `check` is asked.
-#[derive(Drop)]
-pub struct CheckRequest {
+pub struct NetworkRequest {
     /// The name of the case's file.
     pub case: FileName,
     /// The name of the switchings' file.
     pub switch: Option<FileName>,
-}
-
-/// What `field` is asked.
-#[derive(Drop)]
-pub struct FieldRequest {
-    /// The name of the case's file.
-    pub case: FileName,
-    /// The name of the switchings' file.
-    pub switch: Option<FileName>,
-    pub field: UniformField,
-    pub criteria: Criteria,
-}
-
-/// What a mode is asked that looks for the worst orientation of an event's field: `screen` or `outage`.
-#[derive(Drop)]
-pub struct WorstRequest {
-    /// The name of the case's file.
-    pub case: FileName,
-    /// The name of the switchings' file.
-    pub switch: Option<FileName>,
-    pub criteria: Criteria,
-}
-
-/// What `certify` is asked.
-#[derive(Drop)]
-pub struct CertifyRequest {
-    /// The name of the case's file.
-    pub case: FileName,
-    /// The name of the switchings' file.
-    pub switch: Option<FileName>,
-    pub field: UniformField,
+    /// The field and the criteria, the usual ones where none are given.
+    pub question: Question,
 }
 
 /// What `study` is asked.
@@ -134,20 +96,8 @@ pub struct RobustRequest {
 /// What words ask for: a mode, and what that mode is asked.
 #[derive(Drop)]
 pub enum Request {
-    /// The voltage of each line in one field.
-    Volts(VoltsRequest),
-    /// The elements of the direct-current network of the case of this file.
-    List(FileName),
-    /// The live and the dead nodes, where each live one is earthed.
-    Check(CheckRequest),
-    /// Potentials and currents in one field, with verdicts.
-    Field(FieldRequest),
-    /// The worst orientation of the event's uniform field for each transformer, with verdicts.
-    Screen(WorstRequest),
-    /// A certificate of the potentials in one field.
-    Certify(CertifyRequest),
-    /// The worst orientations once more without each line and without each transformer.
-    Outage(WorstRequest),
+    /// A report over the network of a case.
+    Network(NetworkMode, NetworkRequest),
     /// A storm over the network of a case.
     Study(StudyRequest),
     /// A summary of a made case.
@@ -156,8 +106,6 @@ pub enum Request {
     Recheck(RecheckRequest),
     /// One transformer at each step of a storm.
     Series(SeriesRequest),
-    /// What the case of this file says that its writer may not have meant.
-    Review(FileName),
     /// The worst orientations in all networks whose grounds lie within a tolerance, with verdicts.
     Robust(RobustRequest),
 }
@@ -310,68 +258,20 @@ fn tolerance(matches: &ArgMatches<'_>) -> u8
     number(matches, Opt::Tolerance).unwrap() as u8
 }
 
-/// What `volts` is asked.
-fn volts_request(alloc: Global, matches: &ArgMatches<'_>) -> Result<VoltsRequest, AllocError>
-    requires { IsSome (given (rows_of (found_of matches.now)) Opt.Case) }
-    ensures value { IfOk result (λ r. volts_request (rows_of (found_of matches.now)) ≡ Ok r) }
-    ensures within { IfOk result (λ r. IsWithinField r.field) }
-{
-    Ok(VoltsRequest {
-        case: file(alloc, matches, Opt::Case)?,
-        field: field(matches),
-    })
-}
-
-/// What `check` is asked.
-fn check_request(alloc: Global, matches: &ArgMatches<'_>) -> Result<CheckRequest, AllocError>
-    requires { IsSome (given (rows_of (found_of matches.now)) Opt.Case) }
-    ensures { IfOk result (λ r. check_request (rows_of (found_of matches.now)) ≡ Ok r) }
-{
-    Ok(CheckRequest {
-        case: file(alloc, matches, Opt::Case)?,
-        switch: switchings_file(alloc, matches)?,
-    })
-}
-
-/// What `field` is asked.
-fn field_request(alloc: Global, matches: &ArgMatches<'_>) -> Result<FieldRequest, AllocError>
+/// What a mode over the network of a case is asked.
+fn network_request(alloc: Global, matches: &ArgMatches<'_>) -> Result<NetworkRequest, AllocError>
     requires case { IsSome (given (rows_of (found_of matches.now)) Opt.Case) }
     requires event { NamesEvent (rows_of (found_of matches.now)) }
-    ensures value { IfOk result (λ r. field_request (rows_of (found_of matches.now)) ≡ Ok r) }
-    ensures within { IfOk result (λ r. IsWithinField r.field × IsWithinCriteria r.criteria) }
+    ensures value { IfOk result (λ r. network_request (rows_of (found_of matches.now)) ≡ Ok r) }
+    ensures within { IfOk result (λ r. IsWithinRanges r.question) }
 {
-    Ok(FieldRequest {
+    Ok(NetworkRequest {
         case: file(alloc, matches, Opt::Case)?,
         switch: switchings_file(alloc, matches)?,
-        field: field(matches),
-        criteria: criteria(matches),
-    })
-}
-
-/// What `screen` or `outage` is asked.
-fn worst_request(alloc: Global, matches: &ArgMatches<'_>) -> Result<WorstRequest, AllocError>
-    requires case { IsSome (given (rows_of (found_of matches.now)) Opt.Case) }
-    requires event { NamesEvent (rows_of (found_of matches.now)) }
-    ensures value { IfOk result (λ r. worst_request (rows_of (found_of matches.now)) ≡ Ok r) }
-    ensures within { IfOk result (λ r. IsWithinCriteria r.criteria) }
-{
-    Ok(WorstRequest {
-        case: file(alloc, matches, Opt::Case)?,
-        switch: switchings_file(alloc, matches)?,
-        criteria: criteria(matches),
-    })
-}
-
-/// What `certify` is asked.
-fn certify_request(alloc: Global, matches: &ArgMatches<'_>) -> Result<CertifyRequest, AllocError>
-    requires { IsSome (given (rows_of (found_of matches.now)) Opt.Case) }
-    ensures value { IfOk result (λ r. certify_request (rows_of (found_of matches.now)) ≡ Ok r) }
-    ensures within { IfOk result (λ r. IsWithinField r.field) }
-{
-    Ok(CertifyRequest {
-        case: file(alloc, matches, Opt::Case)?,
-        switch: switchings_file(alloc, matches)?,
-        field: field(matches),
+        question: Question {
+            field: field(matches),
+            criteria: criteria(matches),
+        },
     })
 }
 
@@ -461,18 +361,11 @@ fn request_by(alloc: Global, mode: Mode, matches: &ArgMatches<'_>) -> Result<Req
     ensures within { IfOk result AreWithinRanges }
 {
     match mode {
-        Mode::Volts => Ok(Request::Volts(volts_request(alloc, matches)?)),
-        Mode::List => Ok(Request::List(file(alloc, matches, Opt::Case)?)),
-        Mode::Check => Ok(Request::Check(check_request(alloc, matches)?)),
-        Mode::Field => Ok(Request::Field(field_request(alloc, matches)?)),
-        Mode::Screen => Ok(Request::Screen(worst_request(alloc, matches)?)),
-        Mode::Certify => Ok(Request::Certify(certify_request(alloc, matches)?)),
-        Mode::Outage => Ok(Request::Outage(worst_request(alloc, matches)?)),
+        Mode::Network(mode) => Ok(Request::Network(mode, network_request(alloc, matches)?)),
         Mode::Study => Ok(Request::Study(study_request(alloc, matches)?)),
         Mode::Make => Ok(Request::Make(make_request(matches))),
         Mode::Recheck => Ok(Request::Recheck(recheck_request(alloc, matches)?)),
         Mode::Series => Ok(Request::Series(series_request(alloc, matches)?)),
-        Mode::Review => Ok(Request::Review(file(alloc, matches, Opt::Case)?)),
         Mode::Robust => Ok(Request::Robust(robust_request(alloc, matches)?)),
     }
 }
