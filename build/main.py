@@ -20,7 +20,8 @@ OLDEST = (3, 11)
 # (in quotes, an older Python reads the types too)
 def main(words: "list[str]", version: "tuple[int, ...]" = sys.version_info[:2]) -> int:
     if version < OLDEST:
-        sys.stderr.write("gicstudy: the program may have to be compiled, which needs Python 3.11 or later; the python3 on the path is older\n")
+        what = "the program may have to be compiled, which needs Python 3.11 or later; the python3 on the path is older"
+        sys.stderr.write("gicstudy: " + what + "\n")
         return 1
     import command
 

@@ -201,11 +201,11 @@ class Workplace:
             _, printed = self.run(block.about)
             return (has_form if block.kind == "form" else is_shown)(block.lines, printed), printed
         if block.kind == "from":
-            return stands_in(block.lines, text_of(block.about)), ["it doesn't stand so in the file"]
+            return stands_in(block.lines, text_of(block.about)), ["the file doesn't have these lines"]
         if block.kind == "file":
             return self.is_file(block.about, block.lines), ["the file has other lines"]
         if block.kind == "toml":
-            return is_toml(block.lines), ["it is no TOML"]
+            return is_toml(block.lines), ["it isn't TOML"]
         return False, ["nothing ties it"]
 
 

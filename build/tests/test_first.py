@@ -53,7 +53,7 @@ shutil.rmtree = interrupted
 """
 # What a call may take on a machine with much to do.
 WAIT = 300
-HINT = "gicstudy: ./gicstudy --help shows the modes and options\n"
+HINT = "gicstudy: ./gicstudy --help prints the modes and options\n"
 
 
 def setUpModule() -> None:
@@ -281,7 +281,7 @@ class First(unittest.TestCase):
     def test_without_the_toolchain_only_a_kept_program_answers(self) -> None:
         status, out, said = self.at.call("screen", has_rt=False)
         self.assertEqual((status, out), (1, ""))
-        self.assertRegex(said, r"\Agicstudy: there is no proved program, and the command rt, .* on the path\n\Z")
+        self.assertRegex(said, r"\Agicstudy: there is no proved program, and the command rt, .* to the path\n\Z")
         self.at.call("screen")
         self.assertEqual(self.at.call("screen", has_rt=False), (0, "gicstudy without proof: screen\n", LATER))
         self.at.write("low", "low again")
@@ -293,8 +293,8 @@ class First(unittest.TestCase):
         self.assertEqual((status, out), (1, ""))
         self.assertRegex(
             said,
-            r"\Agicstudy: crates/low/src/lib.rt has changed since the program was built, and the command rt, .* on the path, "
-            rf"or run the program as it is, {self.at.out / 'gicstudy'}\n\Z",
+            r"\Agicstudy: crates/low/src/lib.rt has changed since the program was built, and the command rt, .* to the path, "
+            rf"or run the existing program, {self.at.out / 'gicstudy'}\n\Z",
         )
 
     def test_where_nothing_can_be_kept_it_answers_all_the_same(self) -> None:
@@ -373,7 +373,7 @@ class First(unittest.TestCase):
         self.at.settle()
         for words in (["screen"], ["--proved", "screen"], ["--prove", "screen"]):
             self.assertEqual(self.at.call(*words, has_rt=False), (0, "gicstudy: screen\n", ""))
-        self.assertEqual(self.at.call("--prove", has_rt=False)[2], "gicstudy: the program is proved and built already\n")
+        self.assertEqual(self.at.call("--prove", has_rt=False)[2], "gicstudy: the program is already proved and built\n")
         self.assertEqual(self.at.noted(), [])
 
     def test_a_proof_says_when_it_is_done(self) -> None:
