@@ -69,7 +69,7 @@ down_hill l r m i j c p x v q some within lifted first second above enough highe
         omega (arith, linear)
 
 -- times two numbers
-abbrev twice : ℕ → ℕ → ℤ → ℤ
+abbrev pub twice : ℕ → ℕ → ℤ → ℤ
 twice w a z = pos w *ℤ (pos a *ℤ z)
 
 -- a difference as a factor

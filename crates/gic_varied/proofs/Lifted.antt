@@ -148,7 +148,7 @@ module _ (nodes : ℕ) (standing : List Placed) (within : AllByRecursion (λ p. 
       omega (arith, linear)
 
 -- the laws of a solution with these grounds, at all other elements
-other_ohms : (standing : List Placed) (ohm : Element → ℕ) (volts : ℕ → ℤ) (s : Solution) → SolvesWith standing ohm volts s → AllByRecursion (λ p. is_ground p.1 ≡ false → IsOhm volts s p) standing
+pub other_ohms : (standing : List Placed) (ohm : Element → ℕ) (volts : ℕ → ℤ) (s : Solution) → SolvesWith standing ohm volts s → AllByRecursion (λ p. is_ground p.1 ≡ false → IsOhm volts s p) standing
 other_ohms standing ohm volts s h = weaker (λ p. IsOhm volts s (placed_with ohm p)) (λ p. is_ground p.1 ≡ false → IsOhm volts s p) (λ p law other. own_ohm ohm volts s p other law) standing h.by_ohm
 
 module _ (nodes : ℕ) (standing : List Placed) (within : AllByRecursion (λ p. IsElementWithin nodes p.1) standing) (earthed : AreEarthed standing)
@@ -201,7 +201,7 @@ module _ (nodes : ℕ) (standing : List Placed) (within : AllByRecursion (λ p. 
       (recursion_from_All (λ p. is_ground p.1 ≡ false → IsOhm volts varied p) standing varies.ohm) varies.kirchhoff each_lift raises.kirchhoff
 
 -- over plain numbers: the same with the signs turned back
-turned_back : (d x v : ℕ) (a b c : ℤ) → (pos (d * x) *ℤ neg_ℤ c) ≤ℤ (pos v *ℤ (pos x *ℤ neg_ℤ a +ℤ pos d *ℤ b)) →
+pub turned_back : (d x v : ℕ) (a b c : ℤ) → (pos (d * x) *ℤ neg_ℤ c) ≤ℤ (pos v *ℤ (pos x *ℤ neg_ℤ a +ℤ pos d *ℤ b)) →
     (pos v *ℤ (pos x *ℤ a -ℤ pos d *ℤ b)) ≤ℤ (pos (d * x) *ℤ c)
 turned_back d x v a b c h =
     let left = *ℤ-neg_ℤ (pos (d * x)) c in
