@@ -69,7 +69,7 @@ down_hill l r m i j c p x v q some within lifted first second above enough highe
         omega (arith, linear)
 
 -- times two numbers
-abbrev twice : ℕ → ℕ → ℤ → ℤ
+abbrev pub twice : ℕ → ℕ → ℤ → ℤ
 twice w a z = pos w *ℤ (pos a *ℤ z)
 
 -- a difference as a factor
@@ -125,11 +125,17 @@ to_least w v x d r m l z u h =
     let third = volt_in_front_twice w v x d r l u in
     omega (arith, linear)
 
+-- what a lift with the voltage u, whatever it is over, is to make up for at a ground of r micro-ohm: what one of the greatest and one of the least resistance takes less, times W and brought to the common denominator
+pub record MakesUp (range : Range) (w r v x d : ℕ) (p u : ℤ) : Type 0 where
+  pub to_most : (pos range.most *ℤ twice w (v * x) p) ≤ℤ (pos r *ℤ twice w (v * x) p -ℤ pos r *ℤ twice w (v * d) u)
+  pub to_least : (pos range.most *ℤ (pos range.least *ℤ twice w (v * x) p)) ≤ℤ
+      (pos range.most *ℤ (pos r *ℤ twice w (v * x) p) -ℤ pos r *ℤ (pos range.least *ℤ twice w (v * d) u))
+
 -- the three at one ground, over their denominators d, x and v: where the varied potential is above the others, so is its current
-pub ground_below : (range : Range) (w r v x d : ℕ) (i j c p y u q : ℤ) → 0 < w → IsInRange range r →
-    pos r *ℤ i ≡ pos w *ℤ p → pos range.most *ℤ j ≡ pos w *ℤ (y +ℤ pos x *ℤ u) → IsOhmWithin range (pos w *ℤ q) c →
-    IsLift range r p d u → pos 0 ≤ℤ y → three v x d p y q <ℤ pos 0 → three v x d i j c <ℤ pos 0
-ground_below range w r v x d i j c p y u q some inside first second varies lift lifted below = by varies
+pub ground_below_by : (range : Range) (w r v x d : ℕ) (i j c p y u q : ℤ) → 0 < w → IsInRange range r →
+    pos r *ℤ i ≡ pos w *ℤ p → pos range.most *ℤ j ≡ pos w *ℤ (y +ℤ u) → IsOhmWithin range (pos w *ℤ q) c →
+    MakesUp range w r v x d p u → pos 0 ≤ℤ y → three v x d p y q <ℤ pos 0 → three v x d i j c <ℤ pos 0
+ground_below_by range w r v x d i j c p y u q some inside first second varies lift lifted below = by varies
   where
     some_ohm : 0 < r
     some_ohm = let above = inside.above_0 in let least = inside.at_least in omega arith
@@ -140,10 +146,10 @@ ground_below range w r v x d i j c p y u q some inside first second varies lift 
     by_first : pos r *ℤ (pos (v * x) *ℤ i) ≡ twice w (v * x) p
     by_first = *ℤ_left_comm (pos r) (pos (v * x)) i ∙ ap (λ z. pos (v * x) *ℤ z) first ∙ *ℤ_left_comm (pos (v * x)) (pos w) p
 
-    by_second : pos range.most *ℤ (pos (v * d) *ℤ j) ≡ twice w (v * d) y +ℤ twice w (v * d) (pos x *ℤ u)
+    by_second : pos range.most *ℤ (pos (v * d) *ℤ j) ≡ twice w (v * d) y +ℤ twice w (v * d) u
     by_second =
-        *ℤ_left_comm (pos range.most) (pos (v * d)) j ∙ ap (λ z. pos (v * d) *ℤ z) second ∙ *ℤ_left_comm (pos (v * d)) (pos w) (y +ℤ pos x *ℤ u) ∙
-        ap (λ z. pos w *ℤ z) (*ℤ-+ℤ (pos (v * d)) y (pos x *ℤ u)) ∙ *ℤ-+ℤ (pos w) (pos (v * d) *ℤ y) (pos (v * d) *ℤ (pos x *ℤ u))
+        *ℤ_left_comm (pos range.most) (pos (v * d)) j ∙ ap (λ z. pos (v * d) *ℤ z) second ∙ *ℤ_left_comm (pos (v * d)) (pos w) (y +ℤ u) ∙
+        ap (λ z. pos w *ℤ z) (*ℤ-+ℤ (pos (v * d)) y u) ∙ *ℤ-+ℤ (pos w) (pos (v * d) *ℤ y) (pos (v * d) *ℤ u)
 
     at_most : (k : ℕ) → (pos w *ℤ q) ≤ℤ (pos k *ℤ c) → twice w (d * x) q ≤ℤ (pos k *ℤ (pos (d * x) *ℤ c))
     at_most k h =
@@ -173,12 +179,20 @@ ground_below range w r v x d i j c p y u q some inside first second varies lift 
 
     by : IsOhmWithin range (pos w *ℤ q) c → three v x d i j c <ℤ pos 0
     by (inl h) =
-        less (up_hill r range.most (pos (v * x) *ℤ i) (pos (v * d) *ℤ j) (pos (d * x) *ℤ c) (twice w (v * x) p) (twice w (v * d) y) (twice w (v * d) (pos x *ℤ u)) (twice w (d * x) q) some_ohm by_first by_second
-        (at_most range.most h.2) (to_most w v x d r range.most p u lift.to_most) higher)
+        less (up_hill r range.most (pos (v * x) *ℤ i) (pos (v * d) *ℤ j) (pos (d * x) *ℤ c) (twice w (v * x) p) (twice w (v * d) y) (twice w (v * d) u) (twice w (d * x) q) some_ohm by_first by_second
+        (at_most range.most h.2) lift.to_most higher)
     by (inr h) =
-        less (down_hill range.least r range.most (pos (v * x) *ℤ i) (pos (v * d) *ℤ j) (pos (d * x) *ℤ c) (twice w (v * x) p) (twice w (v * d) y) (twice w (v * d) (pos x *ℤ u)) (twice w (d * x) q) (positive_product r range.most some_ohm some_most)
+        less (down_hill range.least r range.most (pos (v * x) *ℤ i) (pos (v * d) *ℤ j) (pos (d * x) *ℤ c) (twice w (v * x) p) (twice w (v * d) y) (twice w (v * d) u) (twice w (d * x) q) (positive_product r range.most some_ohm some_most)
         (let least = inside.at_least in let most = inside.at_most in omega arith) not_below by_first by_second
-        (at_most range.least h.2) (to_least w v x d r range.most range.least p u lift.to_least) higher)
+        (at_most range.least h.2) lift.to_least higher)
+
+-- by a lift of whole nanovolts
+pub ground_below : (range : Range) (w r v x d : ℕ) (i j c p y u q : ℤ) → 0 < w → IsInRange range r →
+    pos r *ℤ i ≡ pos w *ℤ p → pos range.most *ℤ j ≡ pos w *ℤ (y +ℤ pos x *ℤ u) → IsOhmWithin range (pos w *ℤ q) c →
+    IsLift range r p d u → pos 0 ≤ℤ y → three v x d p y q <ℤ pos 0 → three v x d i j c <ℤ pos 0
+ground_below range w r v x d i j c p y u q some inside first second varies lift =
+    ground_below_by range w r v x d i j c p y (pos x *ℤ u) q some inside first second varies
+    (record { to_most = to_most w v x d r range.most p u lift.to_most; to_least = to_least w v x d r range.most range.least p u lift.to_least })
 
 -- a lift itself, where it is below 0: its ground only brings current
 pub lift_below : (m w x : ℕ) (j y u : ℤ) → 0 < m → 0 < w → pos m *ℤ j ≡ pos w *ℤ (y +ℤ pos x *ℤ u) → u ≤ℤ pos 0 → y <ℤ pos 0 → j <ℤ pos 0

@@ -33,6 +33,7 @@ pub mod Shared
 pub mod AdjointEnclosed
 pub mod RaisingParts
 pub mod WorkedPotentials
+pub mod ExactlyLifted
 pub mod LiftReach
 pub mod PotentialReach
 pub mod SumsAndSizes

@@ -17,6 +17,7 @@ pub mod OneNetwork
 pub mod AdjointForm
 pub mod Parts
 pub mod Near
+pub mod ExactLifts
 pub mod Reach
 pub mod Sizes
 pub mod WorkedGrounds

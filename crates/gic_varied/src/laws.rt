@@ -6,6 +6,7 @@ ghost use Rattle.gic_varied.specs.VariedLaws.{RangesHoldTolerances, OwnGroundsAr
 ghost use Rattle.gic_varied.specs.Certified.{CertifiedEnclosuresHold, GrainsHoldInUnits};
 ghost use Rattle.gic_varied.specs.Bounds.{TolerancesAreModest, VariedCurrentsAreBounded};
 ghost use Rattle.gic_varied.specs.Enclosure.{EnclosuresHold, ProductsHold, VariedPotentialsHold, LiftVoltsLift};
+ghost use Rattle.gic_varied.specs.ExactLifts.{PotentialsAreWithinExactHeights, PotentialsAreWithinExactDepths};
 ghost use Rattle.gic_varied.specs.Near.{CertifiedEnclosuresAreNear};
 ghost use Rattle.gic_varied.specs.Reach.{LiftsReachNoFurther, PotentialsReachNoFurther, ListedWeightsAddUp};
 ghost use Rattle.gic_varied.specs.Sizes.{SumsGiveSizes};
@@ -183,4 +184,11 @@ pub fn adjoint_form_law()
 pub fn turning_law()
     ensures greatest { RaisingPartsHaveTheGreatest }
     ensures least { LoweringPartsHaveTheLeast }
+{}
+
+/// The range of all potentials lies within the lifts of the reference enclosure, in exact numbers: so with that range in their
+/// place the enclosure gets no wider.
+pub fn exact_lift_law()
+    ensures above { PotentialsAreWithinExactHeights }
+    ensures below { PotentialsAreWithinExactDepths }
 {}
