@@ -16,6 +16,7 @@ from test_outages import BOTH, HEADS, NONE, ONE, screen
 from test_study import SERIES, WAVE, StudyTest
 
 from gicdesk import charts, gict, waveforms
+from gicdesk.directions import bearing_of
 from gicdesk.events import BaseSwitchings, Event, Switching
 from gicdesk.findings import Refused
 from gicdesk.forms import Interval
@@ -81,11 +82,24 @@ class Switchings(unittest.TestCase):
         self.assertEqual(gict.switchings_of(base, None), rows)
         self.assertIsNone(gict.switchings_of(BaseSwitchings(), None))
 
-    def test_the_direction_in_which_the_current_is_positive(self) -> None:
-        for north, east, bearing in ((100, 0, 0), (0, 100, 90), (-100, 0, 180), (-100, -100, 225), (1000, -1, 0)):
+    def test_the_bearing_is_that_of_the_table_of_units(self) -> None:
+        """The lesser of the two ways, to which the waveform is turned too."""
+        for north, east, bearing in (
+            (100, 0, 0),
+            (0, 100, 90),
+            (0, -100, 90),
+            (-100, 0, 0),
+            (-100, -100, 45),
+            (59, -81, 126),
+            (-59, 81, 126),
+            (1000, -1, 0),
+            (-1000, 1, 0),
+        ):
             to_north, to_east = (Interval(1000 * part, 1000 * part + 1) for part in (north, east))
-            unit = ScreenUnit("T", to_north, to_east, Interval(0, 1), "reaches")
-            self.assertEqual(gict.Subject(unit, None).bearing, bearing)
+            unit = ScreenUnit("T", to_north, to_east, Interval(1, 2), "reaches")
+            subject = gict.Subject(unit, None)
+            self.assertEqual((subject.bearing, bearing_of(unit)), (bearing, bearing))
+            self.assertAlmostEqual(math.cos(cmath.phase(subject.toward) - math.radians(bearing)), 1, 3)
 
 
 class Study(StudyTest):
@@ -132,7 +146,7 @@ class Study(StudyTest):
         self.assertEqual(root.tag, f"{SVG}svg")
         self.assertEqual(len(list(root.iter(f"{SVG}polyline"))), 2)
         self.assertIsNotNone(root.find(f"{SVG}style"))
-        words = "GIC(t) of TA in the network as it stands, A a phase: turned to 45°, to -98.767 A at 60 s"
+        words = "GIC(t) of TA in the network as it stands, A a phase: turned to 45° (either way), to -98.767 A at 60 s"
         colours = "blue: turned, orange: as given, dashed: 75.000 A"
         self.assertEqual(root.findtext(f"{SVG}text"), f"{words} ({colours})")
 

@@ -10,10 +10,11 @@ from collections.abc import Iterator, Sequence
 from typing import Any
 
 from . import case, case_tables, compare, grounds, layouts, losses, mitigate, outages, powermodels, powermodels_read
-from . import psse, psse_units, reports, zones
-from .findings import Refused, refuse, visible
+from . import psse, psse_shifters, psse_units, reports, zones
+from .findings import Finding, Refused, refuse, visible
 from .inputs import Copies, copied
 from .outputs import Set, files_set, folder_set, new_folder, study_set
+from .psse_factors import read_cores
 from .psse_grounds import read_grounds
 from .psse_half import HALF
 from .program import BUILT, Program, find_program
@@ -310,9 +311,15 @@ def run_psse(options: argparse.Namespace) -> None:
     names, factors = f"{stem}.names.csv", f"{stem}.factors.csv"
     written = [options.out, names, *([factors] if options.factors else [])]
     tables = zones.ZoneFiles(options.zones, options.substations, options.polygons, options.lines, options.earth_models)
-    read = [options.raw, options.gic, *(name for name in dataclasses.astuple(tables) if name is not None)]
+    beside = (*dataclasses.astuple(tables), options.core_factors)
+    read = [options.raw, options.gic, *(name for name in beside if name is not None)]
     grounds = read_grounds(options.blank_ground, options.ungrounded)
-    choices = psse.Choices(options.beyond, options.vector, options.alpha, options.windings, grounds, options.factors)
+    findings: list[Finding] = []
+    cores = read_cores(options.core_factors, findings)
+    if findings:
+        raise Refused(findings)
+    taken = (options.beyond, options.vector, options.alpha, options.windings, grounds, options.factors, options.phase_shifter)
+    choices = psse.Choices(*taken, cores)
     with files_set(written, options.force, read) as out:
         made = psse.make_case(options.raw, options.gic, tables, choices)
         texts = {options.out: made.case, names: made.names, factors: made.factors}
@@ -396,8 +403,12 @@ def command_words() -> argparse.ArgumentParser:
     four.add_argument("--alpha", metavar="WAY", default=FORMULA, help=WAYS)
     four.add_argument("--beyond", choices=psse_units.CHOICES, help=told)
     four.add_argument("--factors", action="store_true", help="a table of factors for losses beside the case")
+    cores = "a table core,mvar_per_ampere,at_kv, in the place of the published factors of cores and beside them"
+    four.add_argument("--core-factors", metavar="FILE", help=cores)
     taken = "half: a winding of 0 ohm has half of R1-2 of the power flow"
     four.add_argument("--windings", choices=(HALF,), help=taken)
+    shifter = "a unit between two buses of one voltage: line, a resistance in series, or windings, by its vector group"
+    four.add_argument("--phase-shifter", choices=psse_shifters.CHOICES, help=shifter)
     four.add_argument("--blank-ground", metavar="OHM", help="the ground of a substation whose RG is empty")
     none = "an RG that means no ground, as 0 or 99; may be given several times"
     four.add_argument("--ungrounded", metavar="RG", action="append", default=[], help=none)

@@ -6,15 +6,14 @@ the intervals are the program's.
 """
 
 import array
-import cmath
 import dataclasses
-import math
 import os
 import pathlib
 import tempfile
 from collections.abc import Callable, Iterator, Mapping, Sequence
 
 from .decimals import MILLI, middle_text, shifted
+from .directions import degrees_of, lesser_way
 from .events import BaseSwitchings, Event
 from .findings import refuse
 from .forms import Interval
@@ -46,14 +45,14 @@ class Subject:
 
     @property
     def toward(self) -> complex:
-        """The direction of the field that is worst, by the middles of the currents to the north and to the east; in it the
-        current is positive."""
-        return complex(self.row.north.middle, self.row.east.middle)
+        """The direction of the field that is worst, by the middles of the currents to the north and to the east: of the two
+        ways the one of the lesser bearing, so that the current there may be negative."""
+        return lesser_way(self.row.north.middle, self.row.east.middle)
 
     @property
     def bearing(self) -> int:
-        """The same in whole degrees from the north over the east, from 0 to 359."""
-        return round(math.degrees(cmath.phase(self.toward))) % 360
+        """The same in whole degrees from the north over the east, from 0 to 179, as in the table of units."""
+        return degrees_of(self.toward)
 
     @property
     def out_text(self) -> str:

@@ -10,13 +10,14 @@ from .autos import Auto, turned_words
 from .beyond import reactor_row
 from .cases import Case, Field, Names, Row, short_enough
 from .findings import Finding, Refused, collected
-from .parts import fields_of, too_long
+from .parts import Piece, fields_of, too_long
 from .places import MOST_KM, SHORT_M
 from .psse_gic import Gic, LineData, Reactor, Substation, Windings, read_gic
 from .psse_grounds import Grounds
 from .psse_half import Shares
 from .psse_raw import Branch, Key, Raw, Switch, Transformer, read_raw, title
 from .psse_sections import whole_lines
+from .psse_shifters import Shifter, shifter_of
 from .psse_stations import Stations
 from .psse_units import Beyond, Unit, micro_ohm, neutral_field, volts, windings_of
 from .psse_ways import Ways
@@ -43,6 +44,8 @@ class Choices:
     windings: str | None = None  # what a resistance of 0 is met by
     grounds: Grounds = Grounds()
     factors: bool = False  # whether a table of factors is made
+    shifter: str | None = None  # how a unit between two buses of one voltage is taken
+    cores: psse_factors.Cores = dataclasses.field(default_factory=psse_factors.published)
 
 
 @dataclasses.dataclass
@@ -72,8 +75,7 @@ class Making:
         self.theirs: list[tuple[str, ...]] = []
         self.substation_names: dict[int, str] = {}
         self.bus_names: dict[int, str] = {}
-        self.factors: list[psse_factors.Row] = []
-        self.units = 0  # with a winding in the network
+        self.factors = psse_factors.Factors(choices.cores)
         self.without: set[int] = set()  # buses that were told to be in no substation
 
     def tell(self, at: Record, words: str, column: str | None = None) -> None:
@@ -299,6 +301,12 @@ class Making:
             return
         name = self.names.give(unit.name, f"T{numbers}-{unit.circuit}")
         shares = Shares(self.choices.windings, self.raw.base_mva, self.notes)
+        shifter = shifter_of(name, unit, windings, data, self.choices.shifter)
+        if shifter is not None:
+            self.tell(unit.record, shifter.told)
+        if shifter is not None and shifter.is_line:
+            self.shifter(shifter, data, shares)
+            return
         making = Unit(unit.record, data.record, name, windings, self.bus, self.beyond, unit, shares)
         for row in making.rows():
             used = [row.value(end) for end in ("high", "low", "third") if row.value(end) is not None]
@@ -307,13 +315,26 @@ class Making:
             self.add("transformer", row, unit.name, unit.buses, unit.circuit)
             self.note_factor(row, data)
 
+    def shifter(self, shifter: Shifter, data: Windings, shares: Shares) -> None:
+        """A phase shifter as a line without a span."""
+        unit, (start, end) = shifter.unit, shifter.ends
+        resistance, told = shifter.resistance(data, shares)
+        self.tell(unit.record, f"{shifter.name} is a line {told}")
+        for bus in shifter.left_out:
+            self.tell(unit.record, f"the grounded winding of {shifter.name} at the bus {bus} is left out, since a line has none")
+        zone = self.ways.zone_within(self.gic.substation_of[start])
+        fields = [Field("from", self.bus(start)), Field("to", self.bus(end))]
+        if fields[0].value == fields[1].value:
+            unit.record.wrong(None, f"{shifter.name} has two buses that ties make one; open the tie between them")
+        if zone:
+            fields += fields_of([Piece(zone)], resistance, (0, 0), self.zones.factor)
+            self.add("line", Row(shifter.name, fields, "a phase shifter"), unit.name, unit.buses, unit.circuit)
+
     def note_factor(self, row: Row, data: Windings) -> None:
         """Keeps the factor for losses of a unit with a winding in the network."""
         high_volts = row.value("high_volts")
         if row.value("high") is not None and isinstance(high_volts, int):
-            self.units += 1
-            factor = psse_factors.factor_of(row.name, high_volts, data)
-            self.factors += [] if factor is None else [factor]
+            self.factors.add(row.name, high_volts, data)
 
     def reactor(self, reactor: Reactor) -> None:
         what = f"the reactor {title((reactor.bus,), reactor.circuit)}"
@@ -447,5 +468,5 @@ def make_case(raw_file: str, gic_file: str, zone_files: ZoneFiles, choices: Choi
         raise Refused(findings)
     origin = f"Made by gicdesk psse of {raw_file} and {gic_file}: change these, and make it again."
     text = short_enough(making.case.text(origin), raw_file, notes)
-    factors = psse_factors.factors_text(making.factors, making.units, gic_file, choices.factors, notes)
+    factors = making.factors.text(gic_file, choices.factors, notes)
     return Made(text, Table(NAME_HEADS, making.theirs).csv(), factors, making.notes)

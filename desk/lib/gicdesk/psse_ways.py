@@ -124,6 +124,12 @@ class Ways:
             self.substation_zones[number] = zone
         return self.substation_zones[number]
 
+    def zone_within(self, substation: int) -> str:
+        """The zone of a line within one substation; empty where it isn't known, a finding."""
+        if len(self.zones.zones) == 1:
+            return self.zones.zones[0].row.name
+        return self.zone_of_substation(substation)
+
     def latitudes(self) -> None:
         """Tells of a zone whose latitude isn't the geomagnetic one of the stations that its lines join."""
         for zone in self.zones.zones:

@@ -15,7 +15,7 @@ GREATEST_HEADS = (("at, s", "n"), ("seconds", "n"))
 HEADS = (
     ("unit", "name"),
     ("out", "e"),
-    ("bearing", "n"),
+    ("bearing, either way", "n"),
     ("worst, A", "n"),
     ("turned, A", "n"),
     *GREATEST_HEADS,
@@ -27,7 +27,8 @@ NOTE = (
     "given, both scaled, in the network in which the unit is assessed. What they have read is the desk's: each field of the "
     "waveform times one factor, by which its strongest step has the strength of the event, and turned by one angle until "
     "this step points to the bearing, with both parts rounded to whole mV/km. The bearing is that of the worst current of "
-    "the screen, by the middles of the currents to the north and to the east, and the current is positive there. Worst is "
+    "the screen, by the middles of the currents to the north and to the east, the lesser of two: a field the other way gives as "
+    "much, so a current may be negative here. Worst is "
     "the screen's current, and so the greatest one that a field of this strength brings: the turned waveform reaches it but "
     "for the rounding. Seconds are made as over a storm, at {threshold} A or more whatever the sign. The pictures have the "
     "middles of the intervals, and both ends stand in the tables."
@@ -47,7 +48,7 @@ def picture_title(found: GicT) -> str:
     time, value = found.turned.greatest
     out = found.subject.out_text
     where = f"with {out}" if out else "in the network as it stands"
-    return f"GIC(t) of {found.name} {where}, A a phase: turned to {found.subject.bearing}°, to {amperes(value)} A at {time} s"
+    return f"GIC(t) of {found.name} {where}, A a phase: turned to {found.subject.bearing}° (either way), to {amperes(value)} A at {time} s"
 
 
 def picture_file(found: GicT, threshold: int) -> str:
@@ -64,7 +65,7 @@ def gict_picture(found: GicT, threshold: int) -> Markup:
 
 def gict_figure(found: GicT, threshold: int) -> Markup:
     out = found.subject.out_text
-    words = [f"turned to {found.subject.bearing}°", *([f"with {out}"] if out else [])]
+    words = [f"turned to {found.subject.bearing}° (either way)", *([f"with {out}"] if out else [])]
     caption = tag("figcaption", tag("b", found.name), *[tag("span", word) for word in words])
     return tag("figure", caption, gict_picture(found, threshold))
 

@@ -19,7 +19,7 @@ UNIT_HEADS = {
     "unit": "name",
     "verdict": "",
     "worst, A": "n",
-    "bearing": "n",
+    "bearing, either way": "n",
     "north, A": "n",
     "east, A": "n",
 }
@@ -33,7 +33,7 @@ NOTE = (
     "The currents are effective ones in amperes a phase. Of each interval the end that is further from 0 is shown, as it "
     "was printed; both ends stand in units.csv. North and east are the currents in the event's field to the north and to "
     "the east, worst the greatest over all directions. The bearing of that, in whole degrees from the north over the "
-    "east, is made of the middles of these two; a field the other way gives as much. The worst outage is the single item "
+    "east, is made of the middles of these two; of the two ways the lesser is shown, and a field the other way gives as much. The worst outage is the single item "
     "without which the screen has the greatest high end for the unit; others, where the intervals don't tell which is "
     "worse, are named or counted behind it, and the current with it is the greatest of all outages as outage printed it. "
     "Stations and kV, those of the high side, are the case's."
