@@ -128,5 +128,67 @@ class Taken(PsseTest):
         )
 
 
+class Headings(PsseTest):
+    """Files whose sections have other headings: the case is the same one."""
+
+    OF_35 = (
+        RAW.replace(" 33,", " 35,")
+        .replace("second title\n", "second title\n0 / END OF SYSTEM-WIDE DATA, BEGIN BUS DATA\n")
+        .replace(",0.03,0.1,0,0,0,0,0,0,0,1,1,0", ",0.03,0.1,''" + 16 * ",0" + ",1,1,0")
+        .replace(",0.001,0.0,0,0,0,0,0,0,0,1,1,0", ",0.001,0.0,''" + 16 * ",0" + ",1,1,0")
+        .replace(",-0.02,0.0,0,0,0,0,0,0,0,1,1,0", ",-0.02,0.0,''" + 16 * ",0" + ",1,1,0")
+        .replace(",0.03,0.0,0,0,0,0,0,0,0,0,1,0", ",0.03,0.0,''" + 16 * ",0" + ",0,1,0")
+        .replace(",0.03,0.0,0,0,0,0,0,0,0,1,1,0", ",0.03,0.0,''" + 16 * ",0" + ",1,1,0")
+        .replace(
+            "0 / END OF BRANCH DATA, BEGIN TRANSFORMER DATA\n",
+            "0 / END OF BRANCH DATA, BEGIN SYSTEM SWITCHING DEVICE DATA\n4,5,'9 ',0.0001" + 12 * ",0" + ",1\n"
+            "0 / END OF SYSTEM SWITCHING DEVICE DATA, BEGIN TRANSFORMER DATA\n",
+        )
+    )
+
+    def made_of(self, raw: str) -> tuple[Made, str]:
+        made = self.case([*self.words(raw), "--beyond=leave", "--force"])
+        return made, "\n".join(self.shown).replace(f"{self.folder}/", "")
+
+    def test_other_words_for_sections(self) -> None:
+        expected, told = self.made_of(self.OF_35)
+        self.assertIn("the switching device 4-5 '9' ties two buses", told)
+        self.assertIn("L1-4-1", expected["line"])
+        for changes in (
+            {"BEGIN BRANCH DATA": "BEGIN AC LINE DATA", "BEGIN SYSTEM SWITCHING DEVICE DATA": "BEGIN SWITCHING DEVICES SECTION"},
+            {"BEGIN BRANCH DATA": "BEGIN NON-TRANSFORMER BRANCHES DATA", "BEGIN TRANSFORMER DATA": "BEGIN TRANSFORMERS"},
+            {"BEGIN BUS DATA": "Begin Buses", "BEGIN FIXED SHUNT DATA": "BEGIN FIXED BUS SHUNTS DATA"},
+            {"BEGIN BRANCH DATA": "BEGIN TRANSMISSION LINE DATA", "BEGIN AREA DATA": "BEGIN AREAS DATA"},
+        ):
+            raw = self.OF_35
+            for before, after in changes.items():
+                self.assertIn(before, raw)
+                raw = raw.replace(before, after)
+            made, told = self.made_of(raw)
+            self.assertEqual(made, expected, changes)
+            self.assertNotIn("is skipped", told)
+            self.assertNotIn("is read as", told)
+
+    def test_an_unknown_heading_is_taken_by_its_place_and_told(self) -> None:
+        expected, _ = self.made_of(self.OF_35)
+        made, told = self.made_of(self.OF_35.replace("BEGIN BRANCH DATA", "BEGIN CONDUCTOR DATA"))
+        self.assertEqual(made, expected)
+        line = self.OF_35[: self.OF_35.index("BEGIN BRANCH DATA")].count("\n") + 1
+        words = "the section CONDUCTOR is read as BRANCH, which no other heading names, by its place in the file"
+        self.assertIn(f"net.raw line {line}: {words}", told)
+
+    def test_an_unknown_section_between_others_is_skipped(self) -> None:
+        expected, _ = self.made_of(self.OF_35)
+        between = "BEGIN RATING SET DATA\n1,'A',100\n0 / END OF RATING SET DATA, BEGIN BRANCH DATA"
+        made, told = self.made_of(self.OF_35.replace("BEGIN BRANCH DATA", between))
+        self.assertEqual(made, expected)
+        self.assertIn("the section RATING SET is skipped, with 1 line", told)
+
+    def test_headings_without_names(self) -> None:
+        expected, _ = self.made_of(self.OF_35)
+        bare = "\n".join("0" if line.startswith("0 /") else line for line in self.OF_35.split("\n"))
+        self.assertEqual(self.made_of(bare)[0], expected)
+
+
 if __name__ == "__main__":
     unittest.main()

@@ -106,6 +106,10 @@ class Making:
     # Substations and buses
 
     def place(self, at: Record) -> None:
+        if not (at.text("latitude") or at.text("longitude")):
+            self.network.unplaced.add(at.text("name"))
+            self.notes.append(at.finding(f"{at.text('name')} has no coordinates: the spans of its lines are those of the table"))
+            return
         latitude, longitude = number_in(at, "latitude", LATITUDE), number_in(at, "longitude", LONGITUDE)
         if latitude is not None and longitude is not None:
             self.network.places[at.text("name")] = (latitude, longitude)

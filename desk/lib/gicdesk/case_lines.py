@@ -26,6 +26,7 @@ class Network:
 
     scales: dict[str, Scale] = dataclasses.field(default_factory=dict)  # of zones
     places: dict[str, Place] = dataclasses.field(default_factory=dict)  # of substations
+    unplaced: set[str] = dataclasses.field(default_factory=set)  # substations without coordinates
     kilovolts: dict[str, Number] = dataclasses.field(default_factory=dict)  # of buses
     highest: dict[str, Number] = dataclasses.field(default_factory=dict)  # of substations, the kilovolts of their buses
     stations_of: dict[str, set[str]] = dataclasses.field(default_factory=dict)  # of zones, those that its lines join
@@ -57,9 +58,12 @@ class Line:
             self.at.wrong("capacitor", f"{shown(capacitor)} is neither yes nor empty; write one of these")
         stations = [end.text("substation") for end in ends if end is not None]
         places = [self.network.places[station] for station in stations if station in self.network.places]
-        if len(places) < 2:
+        unplaced = [station for station in stations if station in self.network.unplaced]
+        if len(places) + len(unplaced) < 2:
             self.zone_cell()
             return []
+        if unplaced:
+            places = []
         span = self.span(places)
         pieces = self.pieces(places, span)
         if len(pieces) == 1:  # (one over a border says nothing of the latitude of a zone)
@@ -107,11 +111,15 @@ class Line:
         return first
 
     def span(self, places: Sequence[Place]) -> Span | None:
-        """The span of a line: what the table gives, or else that of the coordinates of its ends."""
-        mapped = span_metres(places[0], places[1])
+        """The span of a line: what the table gives, or else that of the coordinates of its ends, where both have some."""
+        mapped = span_metres(places[0], places[1]) if places else None
         given = [column for column in ("north_km", "east_km") if self.at.text(column)]
+        if not given and mapped is None:
+            words = "it is empty, and an end of the line lies at a substation without coordinates"
+            self.at.wrong("north_km", f"{words}; write the span, or the coordinates")
+            return None
         if not given:
-            return self.span_of_map(mapped)
+            return None if mapped is None else self.span_of_map(mapped)
         if len(given) == 1:
             column = "east_km" if given == ["north_km"] else "north_km"
             self.at.wrong(column, "it is empty, and the other part of the span is given; write both or neither")
@@ -120,7 +128,7 @@ class Line:
         if north is None or east is None:
             return None
         span = whole(north, KILOMETRE), whole(east, KILOMETRE)
-        for column, here, there in zip(("north_km", "east_km"), span, mapped):
+        for column, here, there in zip(("north_km", "east_km"), span, mapped or span):
             if abs(here - there) > SPAN_FROM_MAP_M:
                 words = f"it is {here / 1000:g}, and by the coordinates {there / 1000:g}"
                 self.questions.ask_of_row("span", self.at, column, words, "look at its sign, and at from and to")
@@ -158,13 +166,13 @@ class Line:
         its way lies in; and else in parts, by the borders of the zones."""
         zones = list(self.tables.rows[ZONES])
         borders = self.tables.borders
-        way = [] if borders is None else borders.stretches(places[0], places[1])
+        way = [] if borders is None or not places else borders.stretches(places[0], places[1])
         if self.at.text("zone"):
             return self.written(way, span)
         if len(zones) == 1:
             return [Piece(zones[0])]
         if not way:
-            allowed = f"write one of {', '.join(zones[:9])}, or add a table polygons.csv"
+            allowed = f"write one of {', '.join(zones[:9])}" + ("" if borders is not None else ", or add a table polygons.csv")
             self.at.wrong("zone", f"it is empty; {allowed}")
             return []
         way = way[:1] if self.at.text("capacitor") else way

@@ -78,12 +78,12 @@ def read_degrees(
     file: str, stations: Iterable[str], findings: list[Finding], data: bytes | None = None
 ) -> dict[str, Degrees]:
     """The latitudes and longitudes of the stations of a table. Names that the case doesn't have are left out, and so are
-    rows of a table of all names that have no place. `data` is what it holds, where it has been read already."""
+    rows without a place. `data` is what it holds, where it has been read already."""
     wanted = set(stations)
     found: dict[str, Degrees] = {}
     for at in read_table(file, PLACE_HEADS, findings, None, data):
         name = at.text("name")
-        if name not in wanted and not (at.text("latitude") or at.text("longitude")):
+        if not (at.text("latitude") or at.text("longitude")):
             continue
         degrees = degrees_in(at, "latitude", 90), degrees_in(at, "longitude", 360)
         if name in found:

@@ -129,8 +129,8 @@ class Making:
             usual, what = usual_at(GROUNDS, kilovolts), f"grounds at {kilovolts:f} kV"
             self.tell_unusual(substation.record, "RG", unusual(ohm, usual, what, kilovolts))
             fields.append(Field("ground", micro, f"{ohm:f} ohm to remote earth"))
-        place = f"{substation.latitude:f}", f"{substation.longitude:f}"
-        self.add("substation", Row(name, fields), substation.name, [substation.number], "", place)
+        latitude, longitude = ("", "") if substation.place is None else (f"{degrees:f}" for degrees in substation.place)
+        self.add("substation", Row(name, fields), substation.name, [substation.number], "", (latitude, longitude))
 
     def highest(self, substation: int) -> decimal.Decimal:
         """The highest voltage in a substation, in kV."""
