@@ -9,8 +9,8 @@ import sys
 from collections.abc import Iterator, Sequence
 from typing import Any
 
-from . import case, case_tables, compare, grounds, layouts, losses, mitigate, outages, powermodels, powermodels_read
-from . import psse, psse_shifters, psse_units, reports, zones
+from . import case, case_tables, compare, grounds, layouts, losses, mitigate, outages, powermodels
+from . import powermodels_read, powermodels_reading, psse, psse_shifters, psse_units, reports, zones
 from .findings import Finding, Refused, refuse, visible
 from .inputs import Copies, copied
 from .outputs import Set, files_set, folder_set, new_folder, study_set
@@ -263,15 +263,23 @@ def run_powermodels(options: argparse.Namespace) -> None:
 
 
 def run_from_powermodels(options: argparse.Namespace) -> None:
+    reading = powermodels_reading.read_reading(options.field, options.resistances, options.grounds)
     with files_set([options.out], options.force, [options.north, options.east]) as out:
-        out.publish({file_name(options.out): powermodels_read.make_case(options.north, options.east)})
-    show(visible(f"{options.out} is made") + "\n")
+        made = powermodels_read.make_case(options.north, options.east, reading)
+        out.publish({file_name(options.out): made.case})
+    show("".join(f"{note}\n" for note in made.notes) + visible(f"{options.out} is made") + "\n")
 
 
 def add_from_powermodels(commands: Any) -> None:
     words = commands.add_parser("from-powermodels", help="a case from GMD data of PowerModels, as JSON, in two fields")
     words.add_argument("north", metavar="NORTH.json", help="the data with voltages in 1 V/km to the north")
     words.add_argument("east", metavar="EAST.json", help="the data with voltages in 1 V/km to the east")
+    field = "the field of both files in V/km; without it what the files say that powermodels has written, and else 1"
+    words.add_argument("--field", metavar="NUMBER", help=field)
+    phases = (powermodels_reading.TOGETHER, powermodels_reading.PHASE)
+    words.add_argument("--resistances", choices=phases, default=phases[0], help="of which br_r is: the three phases together, or one")
+    units = (powermodels_reading.SIEMENS, powermodels_reading.OHM)
+    words.add_argument("--grounds", choices=units, default=units[0], help="the unit of g_gnd")
     add_new_file(words, "CASE", "a new file for the case")
     words.set_defaults(run=run_from_powermodels)
 
