@@ -307,7 +307,7 @@ def differing(table: str, north: Table, east: Table) -> list[str]:
 
 def look_for_equal(north: Table, east: Table, files: tuple[str, str]) -> None:
     """Refuses files of which all voltages are alike, as of one that is given twice."""
-    one, other = ([row.values.get("br_v", 0.0) for row in table.values()] for table in (north, east))
+    one, other = ({index: row.values.get("br_v", 0.0) for index, row in table.items()} for table in (north, east))
     if one == other:
         words = f"all its voltages are those of {files[0]}; is one file given twice? Write one in 1 V/km to the north, and one to the east"
         raise refuse(files[1], words)
