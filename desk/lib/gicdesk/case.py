@@ -24,6 +24,7 @@ from .forms import NAME
 from .latitudes import latitude_words
 from .quantities import GROUND_OHM, KILOVOLT, LATITUDE, LONGITUDE, OHM, TOLERANCE, Number, bare, number_in, whole
 from .records import Record
+from .rounding import Rounding
 from .usual import GROUNDS, short, unusual, usual_at
 from .zone_scales import read_alpha, zone_of_row
 
@@ -47,6 +48,7 @@ class Making:
         self.alpha = choices.alpha
         self.case, self.names = Case(), Names({name for rows in tables.rows.values() for name in rows})
         self.network = Network()
+        self.rounding = Rounding()
 
     def make(self) -> None:
         for table, make in (
@@ -182,7 +184,7 @@ class Making:
         return names
 
     def line(self, at: Record) -> None:
-        line = Line(at, self.copies(at), self.tables, self.network, self.questions)
+        line = Line(at, self.copies(at), self.tables, self.network, self.questions, rounding=self.rounding)
         self.case.lists["line"] += line.rows()
         self.network.used.update(line.buses)
         for zone in line.zones:
@@ -200,6 +202,7 @@ class Making:
 class Made:
     case: str
     notes: list[Finding]
+    rounding: str
 
 
 def in_order(tables: Tables, findings: list[Finding]) -> list[Finding]:
@@ -228,4 +231,4 @@ def make_case(folder: str, choices: Choices) -> Made:
     accepted = sorted(making.questions.taken)
     if accepted:
         origin += f" Accepted: {', '.join(accepted)}."
-    return Made(short_enough(making.case.text(origin), folder, notes), notes)
+    return Made(short_enough(making.case.text(origin), folder, notes), notes, making.rounding.text)

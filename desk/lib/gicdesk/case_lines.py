@@ -5,16 +5,17 @@ import math
 from collections.abc import Sequence
 from fractions import Fraction
 
-from .alpha import Scale
+from .alpha import NO_SCALE, Scale
 from .borders import Stretch
 from .case_tables import BUSES, ZONES, Questions, Tables
 from .cases import Field, Row
 from .decimals import MICRO, MILLI, shifted
 from .findings import shown
 from .parts import Piece, Span, crossed_zones, fields_of, pieces_of, pieces_text, too_long, way_fault
-from .places import MOST_KM, SHORT_M, SPAN_FROM_MAP_M, Place, span_metres
+from .places import MOST_KM, SHORT_M, SPAN_FROM_MAP_M, Place, exact_metres, span_metres
 from .quantities import KILOMETRE, OHM, PER_UNIT, Number, bare, number_in, whole
 from .records import Record
+from .rounding import Rounding, meant, written
 from .usual import BASE_MVA, short, unusual_line
 
 CAPACITOR = "yes"
@@ -43,6 +44,8 @@ class Line:
     tables: Tables
     network: Network
     questions: Questions
+    exact: tuple[float, float] = (0.0, 0.0)  # the span in metres without rounding
+    rounding: Rounding = dataclasses.field(default_factory=Rounding)
     buses: set[str] = dataclasses.field(default_factory=set)
     zones: set[str] = dataclasses.field(default_factory=set)
     stations: set[str] = dataclasses.field(default_factory=set)
@@ -73,7 +76,11 @@ class Line:
             return []
         if kilovolts is not None and stations[0] != stations[1]:
             self.ask_usual(ohm, kilovolts, span)
-        return [Row(name, self.fields(pieces, ohm, span), self.at.text("note")) for name in self.names]
+        rows = [Row(name, self.fields(pieces, ohm, span), self.at.text("note")) for name in self.names]
+        if not self.at.text("capacitor"):
+            for row in rows:
+                self.rounding.add(row.name, meant(pieces, self.exact, self.scale), written(row, self.scale))
+        return rows
 
     def ohm(self, kilovolts: Number | None) -> Number | None:
         """The resistance of a phase, written in ohm or per unit; None where it isn't one, which is a finding."""
@@ -119,6 +126,7 @@ class Line:
             self.at.wrong("north_km", f"{words}; write the span, or the coordinates")
             return None
         if not given:
+            self.exact = exact_metres(places[0], places[1]) if places else self.exact
             return None if mapped is None else self.span_of_map(mapped)
         if len(given) == 1:
             column = "east_km" if given == ["north_km"] else "north_km"
@@ -128,6 +136,7 @@ class Line:
         if north is None or east is None:
             return None
         span = whole(north, KILOMETRE), whole(east, KILOMETRE)
+        self.exact = 1000 * float(north), 1000 * float(east)
         for column, here, there in zip(("north_km", "east_km"), span, mapped or span):
             if abs(here - there) > SPAN_FROM_MAP_M:
                 words = f"it is {here / 1000:g}, and by the coordinates {there / 1000:g}"
@@ -219,6 +228,8 @@ class Line:
             fields.append(Field("blocked", True, "a series capacitor passes no direct current"))
         return fields
 
+    def scale(self, zone: str) -> Scale:
+        return self.network.scales.get(zone, NO_SCALE)
+
     def factor(self, zone: str) -> Fraction:
-        scale = self.network.scales.get(zone)
-        return Fraction(1) if scale is None else scale.factor
+        return self.scale(zone).factor

@@ -2,7 +2,6 @@
 
 import dataclasses
 import re
-from collections.abc import Sequence
 from fractions import Fraction
 
 from .findings import Finding, refuse
@@ -92,9 +91,8 @@ class Case:
 
     lists: dict[str, list[Row]] = dataclasses.field(default_factory=lambda: {name: [] for name in LISTS})
 
-    def text(self, origin: str, remarks: Sequence[str] = ()) -> str:
-        """The case; remarks are lines behind its origin."""
-        lines = [*(f"# {printable(words)}" for words in (origin, *remarks)), f"format = {self.format()}"]
+    def text(self, origin: str) -> str:
+        lines = [f"# {printable(origin)}", f"format = {self.format()}"]
         for name, title in LISTS.items():
             lines += ["", f"# {title}"]
             for row in self.lists[name]:

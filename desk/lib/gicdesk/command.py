@@ -262,12 +262,17 @@ def run_powermodels(options: argparse.Namespace) -> None:
     show(visible(f"{options.out} is made: {nodes} rows gmd_bus and {branches} gmd_branch") + "\n")
 
 
+def made_text(notes: Sequence[Finding], out: str, rounding: str) -> str:
+    """What is told of a case that is made: the notes, and how far its rounding is off."""
+    return "".join(f"{note}\n" for note in (*notes, Finding(out, rounding)))
+
+
 def run_from_powermodels(options: argparse.Namespace) -> None:
     reading = powermodels_reading.read_reading(options.field, options.resistances, options.grounds)
     with files_set([options.out], options.force, [options.north, options.east]) as out:
         made = powermodels_read.make_case(options.north, options.east, reading)
         out.publish({file_name(options.out): made.case})
-    show("".join(f"{note}\n" for note in made.notes) + visible(f"{options.out} is made") + "\n")
+    show(made_text(made.notes, options.out, made.rounding) + visible(f"{options.out} is made") + "\n")
 
 
 def add_from_powermodels(commands: Any) -> None:
@@ -332,7 +337,7 @@ def run_psse(options: argparse.Namespace) -> None:
         made = psse.make_case(options.raw, options.gic, tables, choices)
         texts = {options.out: made.case, names: made.names, factors: made.factors}
         out.publish({file_name(name): texts[name] for name in written})
-    told = "".join(f"{note}\n" for note in made.notes)
+    told = made_text(made.notes, options.out, made.rounding)
     show(told + visible(f"{options.out} is made, and {names} says what its names stand for") + "\n")
 
 
@@ -340,7 +345,7 @@ def run_case(options: argparse.Namespace) -> None:
     with files_set([options.out], options.force, case_tables.files_of(options.tables)) as out:
         made = case.make_case(options.tables, case.Choices(options.alpha, tuple(options.accept)))
         out.publish({file_name(options.out): made.case})
-    show("".join(f"{note}\n" for note in made.notes) + visible(f"{options.out} is made") + "\n")
+    show(made_text(made.notes, options.out, made.rounding) + visible(f"{options.out} is made") + "\n")
 
 
 def add_case(commands: Any) -> None:

@@ -317,6 +317,7 @@ def look_for_equal(north: Table, east: Table, files: tuple[str, str]) -> None:
 class Made:
     case: str
     notes: list[Finding]
+    rounding: str
 
 
 def make_case(north_file: str, east_file: str, reading: Reading = Reading()) -> Made:
@@ -340,6 +341,5 @@ def make_case(north_file: str, east_file: str, reading: Reading = Reading()) -> 
     if findings:
         raise Refused(findings)
     notes = [Finding(north_file, words) for words in notes_of(facts, list(making.siemens.values()), making.by_buses, reading, strength)]
-    notes += [Finding(north_file, words) for words in making.rounding.words]
     origin = f"Made by gicdesk from-powermodels of {north_file} and {east_file}: change these, and make it again."
-    return Made(short_enough(making.case.text(origin, making.rounding.words), north_file, notes), notes)
+    return Made(short_enough(making.case.text(origin), north_file, notes), notes, making.rounding.text)

@@ -23,6 +23,7 @@ from .psse_units import Beyond, Unit, micro_ohm, neutral_field, volts, windings_
 from .psse_ways import Ways
 from .quantities import Number
 from .records import Record
+from .rounding import Rounding, meant, written
 from .tables import Table
 from .usual import GROUNDS, REACTORS, unusual, unusual_line, usual_at
 from .zone_scales import FORMULA, read_alpha
@@ -73,6 +74,7 @@ class Making:
         self.beyond = Beyond(choices.beyond, self.notes)
         self.case, self.names, self.groups = Case(), Names(), Groups()
         self.theirs: list[tuple[str, ...]] = []
+        self.rounding = Rounding()
         self.substation_names: dict[int, str] = {}
         self.bus_names: dict[int, str] = {}
         self.factors = psse_factors.Factors(choices.cores)
@@ -248,7 +250,11 @@ class Making:
             if branch.sections:
                 what = "a section of a negative X, which is a series capacitor: it is"
             self.tell(branch.record, f"{name} has {what} blocked")
-        self.add("line", Row(name, fields), branch.name, branch.ends, branch.circuit)
+        row = Row(name, fields)
+        if branch.reactance >= 0:
+            exact = meant(pieces, self.ways.exact_span(branch, override, (north, east)), self.zones.scale)
+            self.rounding.add(name, exact, written(row, self.zones.scale))
+        self.add("line", row, branch.name, branch.ends, branch.circuit)
         return name
 
     def line_reactors(self, branch: Branch, name: str) -> None:
@@ -444,6 +450,7 @@ class Made:
     names: str
     factors: str  # empty where none were asked for
     notes: list[Finding]
+    rounding: str
 
 
 def make_case(raw_file: str, gic_file: str, zone_files: ZoneFiles, choices: Choices) -> Made:
@@ -469,4 +476,4 @@ def make_case(raw_file: str, gic_file: str, zone_files: ZoneFiles, choices: Choi
     origin = f"Made by gicdesk psse of {raw_file} and {gic_file}: change these, and make it again."
     text = short_enough(making.case.text(origin), raw_file, notes)
     factors = making.factors.text(gic_file, choices.factors, notes)
-    return Made(text, Table(NAME_HEADS, making.theirs).csv(), factors, making.notes)
+    return Made(text, Table(NAME_HEADS, making.theirs).csv(), factors, making.notes, making.rounding.text)

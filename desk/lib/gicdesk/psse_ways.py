@@ -7,7 +7,7 @@ from .decimals import MILLI, shifted
 from .findings import Finding
 from .latitudes import latitude_words
 from .parts import Piece, Span, crossed_zones, pieces_of, pieces_text, way_fault
-from .places import MOST_KM, SPAN_FROM_MAP_M, span_metres
+from .places import MOST_KM, SPAN_FROM_MAP_M, exact_metres, span_metres
 from .polygons import zone_of
 from .psse_gic import Gic
 from .psse_raw import Branch, title
@@ -61,6 +61,13 @@ class Ways:
                 words = f"it is {sign * here / 1000:g}, by the coordinates {sign * there / 1000:g}; is its sign turned?"
                 override.record.wrong(column, words)
         return given
+
+    def exact_span(self, branch: Branch, override: Override | None, span: Span) -> tuple[float, float]:
+        """A span of coordinates in metres without the rounding to whole ones; one of the table of lines is as it stands there."""
+        ends = [self.gic.substations[number].place for number in self.stations(branch)]
+        if (override is not None and override.span is not None) or ends[0] is None or ends[1] is None:
+            return span
+        return exact_metres(ends[0], ends[1])
 
     def way(self, branch: Branch) -> list[Stretch]:
         """The straight way between the ends of a branch, by the polygons; nothing where there are none, or no places."""

@@ -6,11 +6,46 @@ on the way into a case; resistances, in whole micro-ohm, are as good as exact.
 
 import dataclasses
 import math
+from collections.abc import Callable, Sequence
+
+from .alpha import Scale, by_table
+from .cases import Part, Row
+from .parts import Piece
 
 FIELD = 8.0  # V/km, of the benchmark event
 Pair = tuple[float, float]  # volts in 1 V/km to the north and to the east
 HOLDS = "the program's intervals are of this case, whose spans, alpha and beta are rounded"
-LEAD = "Rounding: "  # of the line in a case
+HALF_METRE = 0.5
+
+
+def product(scale: Scale) -> float:
+    """Alpha times beta as the program has them."""
+    return float(by_table(scale.latitude)) * scale.beta / 100
+
+
+def meant(pieces: Sequence[Piece], span: Pair, scale_of: Callable[[str], Scale]) -> Pair:
+    """The voltages of a line of this span in metres, without any rounding."""
+    share, whole = 0.0, 0.0
+    for piece in pieces:
+        scale = scale_of(piece.zone)
+        whole += (float(piece.until) - share) * product(scale) * float(scale.factor)
+        share = float(piece.until)
+    return whole * span[0] / 1000, whole * span[1] / 1000
+
+
+def written(row: Row, scale_of: Callable[[str], Scale]) -> Pair:
+    """The voltages of a line as it is in the case."""
+    parts = row.value("part")
+    if isinstance(parts, tuple):
+        return sums([(part, product(scale_of(part.zone))) for part in parts])
+    zone, north, east = row.value("zone"), row.value("north"), row.value("east")
+    if not (isinstance(zone, str) and isinstance(north, int) and isinstance(east, int)):
+        return 0.0, 0.0
+    return sums([(Part(zone, north, east), product(scale_of(zone)))])
+
+
+def sums(parts: Sequence[tuple[Part, float]]) -> Pair:
+    return sum(part.north * times for part, times in parts) / 1000, sum(part.east * times for part, times in parts) / 1000
 
 
 @dataclasses.dataclass
@@ -31,11 +66,19 @@ class Rounding:
             self.name, self.volts, self.part = name, change * FIELD, change / whole if whole else 0.0
 
     @property
-    def words(self) -> list[str]:
-        """What is said of it; nothing of a case without lines."""
-        if not self.lines:
-            return []
-        if self.volts < 1e-6:
-            return [f"{HOLDS}: by that no line's voltage changes"]
-        most = f"by up to {self.volts:.2g} V at {FIELD:g} V/km, that of {self.name}, which is {100 * self.part:.1g} per cent of it"
-        return [f"{HOLDS}: by that the voltage of a line changes {most}"]
+    def text(self) -> str:
+        """What is said of it where the case is made."""
+        if self.volts < 1e-9:
+            return f"{HOLDS}; that changes no voltage of a line"
+        most = f"by up to {short(self.volts)} V at {FIELD:g} V/km, that of {self.name}, which is {short(100 * self.part)} per cent"
+        return f"{HOLDS}; that changes the voltage of a line {most}"
+
+
+def short(number: float) -> str:
+    """A number with two digits, and without an exponent."""
+    return f"{number:.{max(0, 1 - math.floor(math.log10(number)))}f}" if number > 0 else "0"
+
+
+def most_of_metres(scales: Sequence[float], parts: int, field: float) -> float:
+    """By how many volts a line of so many parts may be off in a field of V/km, since each part of its span is in whole metres."""
+    return math.hypot(HALF_METRE, HALF_METRE) * parts * max(scales, default=0.0) * field / 1000

@@ -14,6 +14,7 @@ from .reports import Screen, ScreenUnit
 from .study import BY_EVENT, BY_LIST, BY_OUTAGE, EVENT, MUST, Kept, Study, UnitFacts, count_text
 from .study_gict import gict_section
 from .study_map import map_section
+from .study_rounding import rounding_text
 from .study_storm import losses_section, storm_section
 from .study_style import STYLE
 from .study_units import directions_section, units_section
@@ -337,6 +338,7 @@ def made_section(study: Study) -> Markup:
         tag("p", more),
         *events_of_list(study),
         tag("p", proved_text(study)),
+        tag("p", rounding_text(study)),
     )
 
 
