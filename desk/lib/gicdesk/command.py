@@ -10,7 +10,7 @@ from collections.abc import Iterator, Sequence
 from typing import Any
 
 from . import case, case_tables, compare, grounds, layouts, losses, mitigate, outages, powermodels
-from . import powermodels_read, powermodels_reading, psse, psse_shifters, psse_units, reports, zones
+from . import powermodels_read, powermodels_reading, psse, psse_shifters, psse_units, reports, reviews, zones
 from .findings import Finding, Refused, refuse, visible
 from .inputs import Copies, copied
 from .outputs import Set, files_set, folder_set, new_folder, study_set
@@ -301,6 +301,20 @@ def add_powermodels(commands: Any) -> None:
     words.set_defaults(run=run_powermodels)
 
 
+def run_review(options: argparse.Namespace) -> None:
+    with program_and_copies(options, ("case", "places")) as (program, copies):
+        reviewed = reviews.make_review(Request(program, copies, options.case, places=options.places))
+    show(reviews.review_text(reviewed))
+
+
+def add_review(commands: Any) -> None:
+    words = commands.add_parser("review", help="what of a case is unusual, as questions; with places no loop that they explain")
+    add_case_file(words)
+    words.add_argument("--places", metavar="FILE", help="a table with name, latitude and longitude, which spans are compared with")
+    add_program(words)
+    words.set_defaults(run=run_review)
+
+
 def add_study(commands: Any) -> None:
     words = commands.add_parser("study", help="the whole study of a case: every report, each as a table, and one page")
     add_case_file(words)
@@ -399,6 +413,7 @@ def command_words() -> argparse.ArgumentParser:
 
     add_mitigate(commands)
     add_grounds(commands)
+    add_review(commands)
     add_study(commands)
     add_losses(commands)
     add_powermodels(commands)

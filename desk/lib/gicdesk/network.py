@@ -5,6 +5,7 @@ The program has taken the case, so its rules hold here.
 
 import collections
 import dataclasses
+import functools
 import tomllib
 from collections.abc import Iterable
 from typing import Any
@@ -44,12 +45,20 @@ def span_of(row: dict[str, Any]) -> tuple[int, int]:
     return sum(part["north"] for part in parts), sum(part["east"] for part in parts)
 
 
-def network_of(data: bytes) -> Network | None:
-    """The network of a case that the program has taken; None where it is written in TOML 1.1, which Python doesn't
-    read."""
+@functools.lru_cache(maxsize=1)
+def read_case(data: bytes) -> dict[str, Any] | None:
+    """A case that the program has taken; None where it is written in TOML 1.1, which Python doesn't read. What is read once is kept,
+    and nobody changes it."""
     try:
-        case = tomllib.loads(data.decode("utf-8-sig"))
+        return tomllib.loads(data.decode("utf-8-sig"))
     except (tomllib.TOMLDecodeError, UnicodeDecodeError):
+        return None
+
+
+def network_of(data: bytes) -> Network | None:
+    """The network of a case that the program has taken; None where it isn't read."""
+    case = read_case(data)
+    if case is None:
         return None
     buses = {row["name"]: row["substation"] for row in case.get("bus", [])}
     units = case.get("transformer", [])

@@ -2,8 +2,9 @@
 
 import dataclasses
 import datetime
+import functools
 from collections.abc import Iterable, Iterator, Mapping
-from typing import TypeVar
+from typing import Any, TypeVar
 
 from . import outages
 from .counts import plural
@@ -14,11 +15,12 @@ from .findings import Finding, Refused, collected, refuse, visible
 from .forms import Interval
 from .gict import GicT, Maker, Subject
 from .inputs import Copies, Input
-from .network import Degrees, Network, Place, in_metres, laid_out, network_of, read_degrees
+from .network import Degrees, Network, Place, in_metres, laid_out, network_of, read_case, read_degrees
 from .outages import Asked, Outages, Result, Worst, worst_of
 from .program import Program, Run, commit_of, ending, is_recorded
 from .progress import Progress
 from .questions import question_text
+from .reactors import WAYS, Reactors, make_reactors, reactors_in
 from .reports import (
     Check,
     Elements,
@@ -34,7 +36,10 @@ from .reports import (
     parse_report,
 )
 from .reports import Study as StormReport
+from .reviewed import Asked as AskedOf
+from .reviewed import marks_of, review_questions
 from .spans import Compared, compared
+from .study_marks import marks_lines
 from .storms import Seconds, StormStep, SwitchingRow, seconds_above, storm_steps, switching_rows
 from .storm_notes import factor_notes, field_notes, switching_notes, time_notes, zone_notes
 from .together import together
@@ -206,18 +211,26 @@ class Study:
     gict: list[GicT] = dataclasses.field(default_factory=list)  # of the units that are assessed, where there is a waveform
     is_recorded: bool = False  # the program, in the record of a build
     compared: Compared | None = None  # the spans with the places, where there is a table of these
+    reactors: Reactors = Reactors()
+
+    @functools.cached_property
+    def case(self) -> dict[str, Any] | None:
+        """The case, where Python reads it."""
+        return next((read_case(given.data) for given in self.inputs if given.role == "case"), None)
+
+    @functools.cached_property
+    def reviewed(self) -> list[AskedOf]:
+        return review_questions(self.review.questions, self.compared, self.case)
 
     @property
     def questions(self) -> list[str]:
         """What the writer of the case is asked: by the spans that don't fit the places, and by the review."""
-        if self.compared is None:
-            return [question_text(question) for question in self.review.questions]
-        asked = [question for question in self.review.questions if question not in self.compared.explained]
-        reviewed = [
-            question_text(question) + (self.compared.loop_text(question.name) if question.kind == "closure" else "")
-            for question in asked
-        ]
-        return [misfit.text for misfit in self.compared.misfits] + reviewed
+        return [asked.text for asked in self.reviewed]
+
+    @functools.cached_property
+    def marks(self) -> dict[str, list[int]]:
+        """Of each unit the numbers of the questions that can change what is said of it."""
+        return marks_of(self.reviewed, self.questions, self.case)
 
     @property
     def notes(self) -> list[str]:
@@ -458,6 +471,15 @@ def run_flows(runs: Runs, screen: Screen, words: tuple[str, ...]) -> Flows:
     return Flows(bearing, field_at(runs, "flows", screen, bearing, words))
 
 
+def run_reactors(runs: Runs, case: Input, screen: Screen, words: tuple[str, ...]) -> Reactors:
+    """The currents of the windings of reactors, where the case has any."""
+    names = reactors_in(read_case(case.data))
+    runs.progress.total += len(WAYS) if names else 0
+    return make_reactors(
+        names, screen.field, lambda name, north, east: runs.report(Field, name, "field", north, east, *words)
+    )
+
+
 def facts_of(
     screen: Screen,
     supplemental: Screen,
@@ -561,6 +583,7 @@ def make_study(request: Request) -> Study:
         outage = runs.report(Outage, "outage", "outage", *request.screen_words)
         look_for_one_case((screen, supplemental, outage, None if storm is None else storm.report))
         flows = run_flows(runs, screen, request.screen_words)
+        reactors = run_reactors(runs, inputs["case"], screen, request.screen_words)
         losses = run_losses(runs, tables.factors, screen, request.screen_words)
         events, worst = outages_and_worst(runs, basis, base, tables.events, outage)
         units = facts_of(screen, supplemental, outage, worst, events, storm)
@@ -599,6 +622,7 @@ def make_study(request: Request) -> Study:
         waveform=tables.waveform,
         gict=gict,
         compared=spans,
+        reactors=reactors,
     )
 
 
@@ -638,4 +662,4 @@ def study_text(study: Study, page: str) -> str:
         more = [f"and {len(names) - SHOWN} more"] if len(names) > SHOWN else []
         if names:
             lines.append(f"{len(names)} {when}: {' '.join([*names[:SHOWN], *more])}")
-    return "\n".join([*lines, f"{visible(page)} is made"]) + "\n"
+    return "\n".join([*lines, *marks_lines(study.units, study.marks), f"{visible(page)} is made"]) + "\n"

@@ -4,7 +4,7 @@ run."""
 import hashlib
 import os
 import shlex
-from collections.abc import Iterable, Iterator, Mapping
+from collections.abc import Iterable, Iterator, Mapping, Sequence
 
 from . import earlier, gict, outages
 from .compare import ends_or_nothing
@@ -22,6 +22,8 @@ from .workbook import workbook
 
 PAGE, COMMANDS, WORKBOOK = "study.html", "commands.txt", "tables.xlsx"
 UNITS, LOSSES = "units", "losses"  # tables
+MORE_HEADS = ["winding_low_A", "winding_high_A", "open_questions"]
+NONE_OF_REACTORS = ("bearing_degrees", "worst_outage", "worst_outage_perhaps_as_bad", "worst_event", "worst_event_perhaps_as_bad")
 
 
 def interval_heads(name: str) -> list[str]:
@@ -37,6 +39,16 @@ def worst_cells(worst: Worst | None) -> list[str]:
 def page_of(folder: str) -> str:
     """The name of the page in a folder."""
     return os.path.join(folder, PAGE)
+
+
+def more_cells(study: Study, name: str) -> list[str]:
+    """The greatest current of the winding of a reactor, and the numbers of the open questions that can change a unit."""
+    return [*ends_or_nothing(study.reactors.worst.get(name)), " ".join(map(str, study.marks.get(name, [])))]
+
+
+def without_currents(heads: Sequence[str], cells: list[str]) -> list[str]:
+    """The cells of a reactor, which has no current of a unit."""
+    return ["" if head.endswith("_A_per_phase") or head in NONE_OF_REACTORS else cell for head, cell in zip(heads, cells)]
 
 
 def unit_cells(study: Study, unit: UnitFacts) -> list[str]:
@@ -84,7 +96,10 @@ def units_table(study: Study) -> Table:
     for name in ("worst_outage", "worst_event"):
         heads += [name, *interval_heads(name), f"{name}_verdict", f"{name}_perhaps_as_bad"]
     heads += [*interval_heads("storm"), "storm_verdict", "certain_seconds", "possible_seconds", "must_be_assessed"]
-    return Table(heads, [unit_cells(study, unit) for unit in study.units])
+    heads += MORE_HEADS
+    rows = [[*unit_cells(study, unit), *more_cells(study, unit.name)] for unit in study.units]
+    are_reactors = [unit.name in study.reactors for unit in study.units]
+    return Table(heads, [without_currents(heads, row) if is_one else row for row, is_one in zip(rows, are_reactors)])
 
 
 def losses_table(study: Study) -> Table:

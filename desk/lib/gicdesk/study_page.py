@@ -14,6 +14,7 @@ from .reports import Screen, ScreenUnit
 from .study import BY_EVENT, BY_LIST, BY_OUTAGE, EVENT, MUST, Kept, Study, UnitFacts, count_text
 from .study_gict import gict_section
 from .study_map import map_section
+from .study_marks import marked, marks_note
 from .study_rounding import rounding_text
 from .study_storm import losses_section, storm_section
 from .study_style import STYLE
@@ -134,7 +135,7 @@ def questions_section(study: Study) -> Markup:
     if study.compared is not None:
         words = f"{plural(len(questions), 'question')}, and no fault any of them: write down the answer."
     room = [tag("span", class_="write")] if len(questions) <= MOST_WITH_ROOM else []
-    items = [tag("li", question, *room) for question in questions]
+    items = [tag("li", question, *room, id=f"q{number}") for number, question in enumerate(questions, 1)]
     return section("questions", tag("p", words), tag("ol", *items), *compared)
 
 
@@ -190,10 +191,10 @@ def answer_groups(study: Study) -> list[Markup]:
     return [
         group(
             "By the benchmark event, in the network as it stands",
-            [(unit.name, screen_words(unit.benchmark)) for unit in study.brought(BY_EVENT)],
+            [(marked(unit.name, study.marks), screen_words(unit.benchmark)) for unit in study.brought(BY_EVENT)],
         ),
-        group("More with one item out", [(unit.name, outage_words(unit)) for unit in study.brought(BY_OUTAGE)]),
-        group("More in an event of the list", [(unit.name, event_words(unit.worst_event)) for unit in study.brought(BY_LIST)]),
+        group("More with one item out", [(marked(unit.name, study.marks), outage_words(unit)) for unit in study.brought(BY_OUTAGE)]),
+        group("More in an event of the list", [(marked(unit.name, study.marks), event_words(unit.worst_event)) for unit in study.brought(BY_LIST)]),
     ]
 
 
@@ -209,9 +210,9 @@ def groups_beside(study: Study) -> list[Markup]:
     return [
         group(
             f"Of the others these reach {threshold} A in the supplemental event",
-            [(unit.name, screen_words(unit.supplemental)) for unit in study.beyond],
+            [(marked(unit.name, study.marks), screen_words(unit.supplemental)) for unit in study.beyond],
         ),
-        group(words, [(unit.name, peak_words(unit)) for unit in storm]),
+        group(words, [(marked(unit.name, study.marks), peak_words(unit)) for unit in storm]),
     ]
 
 
@@ -231,6 +232,7 @@ def answer_section(study: Study) -> Markup:
         notes.append(tag("p", "All of it is said of the case as it is written, of which ", asked, f" {stand} below."))
     if study.assessed != study.brought(BY_EVENT):
         notes.append(tag("p", OUTAGE_NOTE))
+    notes += marks_note(study.units, study.marks)
     notes += [tag("p", note) for note in study.notes]
     note = (
         "Beside each name stands the high end of its worst current, in amperes a phase, as the program printed it. What "

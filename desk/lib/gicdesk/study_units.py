@@ -2,13 +2,14 @@
 
 from collections import Counter
 
-from . import pictures
+from . import pictures, study_marks
 from .decimals import MILLI, shifted
 from .directions import STEP, direction_counts
 from .markup import Markup, table, tag
 from .outages import Worst
 from .reports import VERDICTS, Unit
 from .study import BY_EVENT, Study, UnitFacts
+from .study_marks import mark_cell
 from .study_words import ABSENT, amperes, made, peak_of, section, station_of, threshold_of, verdict
 
 MOST_ROSES = 48
@@ -44,6 +45,10 @@ STORM_NOTE = (
     "each step counted up to the next one, and the last one for nothing, so 0 may stand beside a current above it: by "
     "the series of a unit, and 0 where study says below. Where two numbers stand it is surely the first and at most the "
     "second."
+)
+REACTOR_NOTE = (
+    " A shunt reactor has no current of a unit: beside its – stands the greatest current of its winding, of the three phases together "
+    "(a third of it is that of a phase), made by the desk of the currents in the event's field to the north and to the east."
 )
 ROSE_NOTE = (
     "All roses have one scale: the outer circle is {scale} A, and the dashed one {threshold} A. How far a curve is from "
@@ -83,6 +88,8 @@ def storm_cells(unit: UnitFacts) -> list[str]:
 
 def unit_cells(study: Study, unit: UnitFacts) -> list[str]:
     row = unit.benchmark
+    if unit.name in study.reactors:
+        return reactor_cells(study, unit)
     return [
         unit.name,
         verdict(row.verdict),
@@ -97,7 +104,18 @@ def unit_cells(study: Study, unit: UnitFacts) -> list[str]:
         *(storm_cells(unit) if study.has_storm_report else []),
         station_of(study, unit.name),
         kilovolts(study, unit.name),
+        mark_cell(unit.name, study.marks),
     ]
+
+
+def reactor_cells(study: Study, unit: UnitFacts) -> list[str]:
+    """Of a reactor the greatest current of its winding, in place of one of a unit, which it has none of."""
+    winding = study.reactors.worst[unit.name]
+    worst = ABSENT if winding is None else f"{ABSENT} (winding {amperes(winding)})"
+    many = len(OUTAGE_HEADS) + (len(EVENT_HEADS) if study.events is not None else 0)
+    many += len(STORM_HEADS) if study.has_storm_report else 0
+    cells = [unit.name, verdict(unit.benchmark.verdict), worst, *[ABSENT] * 3, *[ABSENT] * len(SUPPLEMENTAL_HEADS), *[ABSENT] * many]
+    return [*cells, station_of(study, unit.name), kilovolts(study, unit.name), mark_cell(unit.name, study.marks)]
 
 
 def units_section(study: Study) -> Markup:
@@ -109,7 +127,9 @@ def units_section(study: Study) -> Markup:
     if study.has_storm_report:
         heads += STORM_HEADS.items()
         note += STORM_NOTE.format(threshold=threshold_of(study))
-    heads += PLACE_HEADS.items()
+    heads += [*PLACE_HEADS.items(), *study_marks.HEAD.items()]
+    note += REACTOR_NOTE if study.reactors.worst else ""
+    note += study_marks.NOTE if study.marks else ""
     counts = Counter(unit.benchmark.verdict for unit in study.units)
     words = ", ".join(f"{counts[word]} {word}" for word in VERDICTS)
     rows = [unit_cells(study, unit) for unit in study.units]

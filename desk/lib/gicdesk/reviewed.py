@@ -1,0 +1,49 @@
+"""The questions to the writer of a case: the findings of the review, with what the desk knows beside them."""
+
+import dataclasses
+from collections.abc import Sequence
+from typing import Any
+
+from .neighbours import Graph, low_parts, low_text
+from .questions import question_text
+from .reports import Question
+from .spans import Compared
+
+
+@dataclasses.dataclass(frozen=True)
+class Asked:
+    """A question in words, and the units that its answer can change."""
+
+    text: str
+    units: frozenset[str]
+
+
+def review_questions(questions: Sequence[Question], compared: Compared | None, case: dict[str, Any] | None) -> list[Asked]:
+    """The spans that don't fit the places, and the findings of the review that these don't explain; parts of low voltages are one
+    question. Where the case isn't known, as one in TOML 1.1, no unit is."""
+    graph = Graph({} if case is None else case)
+    explained = [] if compared is None else compared.explained
+    low, others = low_parts(graph, [question for question in questions if question not in explained])
+    asked = [Asked(one.text, frozenset(graph.near([one.link.name]))) for one in ([] if compared is None else compared.misfits)]
+    for question in others:
+        more = compared.loop_text(question.name) if compared is not None and question.kind == "closure" else ""
+        asked.append(Asked(question_text(question) + more, frozenset(graph.changed_by(question))))
+    if low:
+        asked.append(Asked(low_text(graph, low), frozenset(unit for one in low for unit in graph.part(one.name))))
+    return asked
+
+
+def marks_of(asked: Sequence[Asked], texts: Sequence[str], case: dict[str, Any] | None) -> dict[str, list[int]]:
+    """The numbers of the questions that can change a unit, from 1 on in the order of their texts. A question that isn't among those
+    that are asked here is about the rows that it names."""
+    if case is None:
+        return {}
+    graph, known = Graph(case), {one.text: one.units for one in asked}
+    units = [row["name"] for row in graph.rows("transformer")]
+    marks: dict[str, list[int]] = {}
+    for number, text in enumerate(texts, 1):
+        changed = known[text] if text in known else graph.changed_by_text(text)
+        for unit in units:
+            if unit in changed:
+                marks.setdefault(unit, []).append(number)
+    return marks
