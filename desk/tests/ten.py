@@ -110,9 +110,9 @@ def tables() -> dict[str, str]:
     texts["lines"] += f"{SHIFTER},E345,E345p,,{sum(SHIFTER_OHM):.1f},,,\n"
     for name, (kind, buses, group, ohms, neutral) in UNITS.items():
         windings = dict(zip(WINDINGS[kind], ohms))
-        ends = buses[: max(len(ohms), 0)]
-        kilovolts = [str(BUSES[bus][2]) for bus in ends] or [str(BUSES[buses[0]][2])]
-        cells = [name, kind, *(list(ends) + ["", ""])[:2], *(kilovolts + [""])[:2]]
+        ends = buses[: len(ohms)]
+        rated = [str(BUSES[bus][2]) for bus in ends] or [str(BUSES[buses[0]][2])]
+        cells = [name, kind, *[*ends, "", ""][:2], *[*rated, ""][:2]]
         cells += [str(windings.get(role, "")) for role in ("high", "low", "series", "common")]
         texts["transformers"] += ",".join([*cells, neutral, group]) + "\n"
     return texts
@@ -172,14 +172,15 @@ class Gmd:
         self.rows: dict[str, dict[str, Any]] = {}
 
     def node(self, name: str, siemens: float = 0.0, parent: int = -1) -> int:
-        row = {"index": len(self.nodes) + 1, "name": name, "status": 1, "g_gnd": siemens, "parent_index": parent}
-        return int(self.nodes.setdefault(name, row)["index"])
+        place = len(self.nodes) + 1
+        self.nodes[name] = {"index": place, "name": name, "status": 1, "g_gnd": siemens, "parent_index": parent}
+        return place
 
     def branch(self, name: str, start: str, end: str, ohm: float, volts: float = 0.0) -> int:
         ends = {"f_bus": self.nodes[start]["index"], "t_bus": self.nodes[end]["index"]}
-        row = {"index": len(self.rows) + 1, "name": name, "br_status": 1, "br_r": ohm, "br_v": volts * self.field, **ends}
-        self.rows[name] = row
-        return int(row["index"])
+        place = len(self.rows) + 1
+        self.rows[name] = {"index": place, "name": name, "br_status": 1, "br_r": ohm, "br_v": volts * self.field, **ends}
+        return place
 
     def line(self, name: str, start: str, end: str, ohm: float) -> None:
         self.branch(name, start, end, ohm / 3, span(start, end)[self.way] / 1000 * SCALE)

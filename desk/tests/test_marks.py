@@ -2,6 +2,7 @@
 
 import subprocess
 import unittest
+from typing import Any
 
 from shared import BUILT
 from test_study import CASE, FIELD, StudyTest
@@ -13,7 +14,7 @@ from gicdesk.reports import Question
 from gicdesk.reviewed import marks_of, review_questions
 
 # A chain of seven stations S0 to S6, each with a unit T0 to T6, of which a capacitor blocks the line from S5 to S6.
-CHAIN = {
+CHAIN: dict[str, Any] = {
     "zone": [{"name": "Z"}, {"name": "Y"}],
     "substation": [{"name": f"S{place}"} for place in range(7)],
     "bus": [{"name": f"b{place}", "substation": f"S{place}"} for place in range(7)],
@@ -64,7 +65,7 @@ class Near(unittest.TestCase):
 
 
 class Low(unittest.TestCase):
-    def case(self, volts: int) -> dict[str, object]:
+    def case(self, volts: int) -> dict[str, Any]:
         """Three units of two voltages apart from the chain."""
         names = [f"D{place}" for place in range(3)]
         more = {
@@ -74,7 +75,7 @@ class Low(unittest.TestCase):
                 {"name": name, "kind": "wye-wye", "high": f"h{name}", "low": f"l{name}", "high_volts": volts} for name in names
             ],
         }
-        return CHAIN | {key: [*CHAIN[key], *rows] for key, rows in more.items()}  # type: ignore[has-type]
+        return CHAIN | {key: [*CHAIN[key], *rows] for key, rows in more.items()}
 
     QUESTIONS = [Question("part", "b0", number=14), *(Question("part", f"SD{place}", number=3) for place in range(3))]
 

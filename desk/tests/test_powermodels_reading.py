@@ -9,6 +9,7 @@ from typing import Any
 import ten
 from shared import DeskTest
 
+from gicdesk.places import degrees_between
 from gicdesk.powermodels_reading import LineFacts, Reading, resistance_note, typical
 from gicdesk.powermodels_spans import loop_notes
 
@@ -186,7 +187,7 @@ class Spans(ReadingTest):
         rings = ("ab", "bc", "cd", "da", "be", "ef", "fc", "ac", "bf")
         lines = []
         for name in rings:
-            volts = tuple(0.5 * metres / 1000 for metres in ten.degrees_between(corners[name[0]], corners[name[1]]))
+            volts = tuple(0.5 * metres / 1000 for metres in degrees_between(corners[name[0]], corners[name[1]]))
             lines.append(LineFacts(name, name, name[0], name[1], (volts[0], volts[1]), 1.0, None, None, None))
         self.assertNotIn("changed over", " ".join(loop_notes(lines)))
         changed = [LineFacts(one.index, one.name, one.start, one.end, (one.volts[1], one.volts[0]), 1.0, None, None, None) for one in lines]
