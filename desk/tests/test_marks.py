@@ -68,7 +68,7 @@ class Low(unittest.TestCase):
     def case(self, volts: int) -> dict[str, Any]:
         """Three units of two voltages apart from the chain."""
         names = [f"D{place}" for place in range(3)]
-        more = {
+        more: dict[str, list[dict[str, Any]]] = {
             "substation": [{"name": f"S{name}"} for name in names],
             "bus": [{"name": f"{side}{name}", "substation": f"S{name}"} for name in names for side in "hl"],
             "transformer": [
