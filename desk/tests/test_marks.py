@@ -59,6 +59,14 @@ class Near(unittest.TestCase):
         marks = self.marks(Question("ungrounded", "S6"), Question("outside", "T0"), Question("ungrounded", "S2"))
         self.assertEqual((marks["T6"], marks["T0"], marks["T5"]), ([1], [2, 3], [3]))
 
+    def test_a_line_within_a_station_is_asked_about_in_words_of_its_own(self) -> None:
+        within = {"name": "PS", "from": "b0", "to": "b7", "zone": "Z"}
+        case = CHAIN | {"line": [*CHAIN["line"], within], "bus": [*CHAIN["bus"], {"name": "b7", "substation": "S0"}]}
+        (asked,) = review_questions([Question("value", "PS", "line", "span", 0)], None, case)
+        self.assertEqual(asked.text, "line PS joins two buses of S0, and has no span: is it a phase shifter, or does it lead to another station?")
+        (asked,) = review_questions([Question("value", "L0", "line", "span", 0)], None, case)
+        self.assertEqual(asked.text, "line L0: the span is 0 km, as few have it: is it meant?")
+
     def test_questions_in_words_are_about_what_they_name(self) -> None:
         marks = marks_of([], ["Is the ground of S6 meant?", "All grounds are 0.5 ohm: are they?"], CHAIN)
         self.assertEqual((marks["T6"], marks["T0"]), ([1, 2], [2]))

@@ -2,12 +2,13 @@
 or told. The data are those of ten.py."""
 
 import json
+import random
 import unittest
 from collections.abc import Callable
 from typing import Any
 
 import ten
-from shared import DeskTest
+from shared import DeskTest, desk
 
 from gicdesk.places import degrees_between
 from gicdesk.powermodels_reading import LineFacts, Reading, resistance_note, typical
@@ -215,6 +216,37 @@ class OfTheDesk(ReadingTest):
             fields = [dict(zip(("north", "east"), one)) for one in (north, east)]
             (line,) = self.fault(self.with_fields(fields[0], fields[1]))
             self.assertIn("aren't as strong, one to the north and one to the east", line)
+
+
+class Odd(ReadingTest):
+    VALUES: tuple[object, ...] = (None, -1, 0, 1, 1e300, 1e-310, -5.0, "", "x", True, [], {}, 0.25, {"north": "x"}, {"north": 1000})
+
+    def test_nothing_ends_in_a_traceback(self) -> None:
+        """Whatever stands in the tables beside those of a case, and in these."""
+        drawn = random.Random(5)
+        for _ in range(120):
+            datas = [ten.powermodels(way, 1.0, True) | {"gicdesk_field": {"north": 1000 * (1 - way), "east": 1000 * way}} for way in (0, 1)]
+            table = drawn.choice(list(datas[0]))
+            for _ in range(drawn.choice((1, 2, 5))):
+                self.spoil(drawn, datas, table)
+            files = [self.file(f"{way}.json", json.dumps(data)) for way, data in enumerate(datas)]
+            options = drawn.choice(([], ["--grounds=ohm"], ["--resistances=phase"], ["--field=8"]))
+            status, _, _ = desk("from-powermodels", *files, f"--out={self.folder / 'case.toml'}", "--force", *options)
+            self.assertIn(status, (0, 1))
+
+    def spoil(self, drawn: random.Random, datas: list[Data], table: str) -> None:
+        value, is_whole, is_first = json.dumps(drawn.choice(self.VALUES)), drawn.random() < 0.1, drawn.random() < 0.1
+        for data in datas:
+            rows = data[table]
+            if is_whole or not isinstance(rows, dict) or not rows:
+                data[table] = json.loads(value)
+                continue
+            index = sorted(rows)[0 if is_first else len(rows) // 2]
+            row = rows[index]
+            if isinstance(row, dict) and row:
+                row[sorted(row)[len(row) // 3]] = json.loads(value)
+            else:
+                rows[index] = json.loads(value)
 
 
 if __name__ == "__main__":

@@ -31,7 +31,7 @@ class OfTables(CaseTest):
         self.assertTrue(self.rounding.endswith(words), (self.rounding, words))
 
     def test_alpha_by_the_formula(self) -> None:
-        """A factor on spans, which are whole metres behind it: it changes a voltage by half a metre at the most."""
+        """A factor on spans, which are whole metres before and behind it: a voltage changes by a metre at the most."""
         self.made("--alpha=formula")
         volts = float(self.rounding.split("by up to ")[1].split(" ")[0])
         self.assertGreater(volts, 0)
@@ -75,16 +75,16 @@ class Numbers(unittest.TestCase):
         found.add("c", (90.0, 0.0), (90.001, 0.0))
         self.assertTrue(found.text.endswith("by up to 0.040 V at 8 V/km, that of b, which is 0.050 per cent"), found.text)
 
-    def test_half_a_metre_each_way(self) -> None:
+    def test_a_metre_each_way(self) -> None:
         """Of a zone with alpha and beta 1, at 8 V/km."""
-        self.assertAlmostEqual(most_of_metres([0.5, 1.0], 1, 8.0), 8 * math.sqrt(0.5) / 1000)
-        self.assertAlmostEqual(most_of_metres([1.0], 3, 8.0), 3 * 8 * math.sqrt(0.5) / 1000)
+        self.assertAlmostEqual(most_of_metres([0.5, 1.0], 1, 8.0), 8 * math.sqrt(2) / 1000)
+        self.assertAlmostEqual(most_of_metres([1.0], 3, 8.0), 3 * 8 * math.sqrt(2) / 1000)
         self.assertEqual(most_of_metres([], 1, 8.0), 0.0)
 
 
 class OnThePage(StudyTest):
     def test_the_page_says_it(self) -> None:
-        words = "The intervals hold for the case as it is written. Its spans are in whole metres: by that the voltage of a line in 8.000 V/km is up to 0.0057 V off"
+        words = "The intervals hold for the case as it is written. Its spans are in whole metres: by that the voltage of a line in 8.000 V/km is up to 0.011 V off"
         self.assertIn(words, self.page())
 
 

@@ -27,10 +27,19 @@ def review_questions(questions: Sequence[Question], compared: Compared | None, c
     asked = [Asked(one.text, frozenset(graph.near([one.link.name]))) for one in ([] if compared is None else compared.misfits)]
     for question in others:
         more = compared.loop_text(question.name) if compared is not None and question.kind == "closure" else ""
-        asked.append(Asked(question_text(question) + more, frozenset(graph.changed_by(question))))
+        text = within_text(question, graph) or question_text(question)
+        asked.append(Asked(text + more, frozenset(graph.changed_by(question))))
     if low:
         asked.append(Asked(low_text(graph, low), frozenset(unit for one in low for unit in graph.part(one.name))))
     return asked
+
+
+def within_text(question: Question, graph: Graph) -> str:
+    """The question about a line without a span within one station, as a phase shifter is one; empty for any other."""
+    start, end = graph.ends.get(question.name, ("", ""))
+    if question.list != "line" or question.field != "span" or not start or start != end:
+        return ""
+    return f"line {question.name} joins two buses of {start}, and has no span: is it a phase shifter, or does it lead to another station?"
 
 
 def marks_of(asked: Sequence[Asked], texts: Sequence[str], case: dict[str, Any] | None) -> dict[str, list[int]]:

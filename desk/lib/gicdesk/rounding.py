@@ -15,7 +15,7 @@ from .parts import Piece
 FIELD = 8.0  # V/km, of the benchmark event
 Pair = tuple[float, float]  # volts in 1 V/km to the north and to the east
 HOLDS = "the program's intervals are of this case, whose spans, alpha and beta are rounded"
-HALF_METRE = 0.5
+METRE = 1.0  # a span of coordinates is rounded to whole ones, and so is that times the factor of its zone
 
 
 def product(scale: Scale) -> float:
@@ -81,4 +81,4 @@ def short(number: float) -> str:
 
 def most_of_metres(scales: Sequence[float], parts: int, field: float) -> float:
     """By how many volts a line of so many parts may be off in a field of V/km, since each part of its span is in whole metres."""
-    return math.hypot(HALF_METRE, HALF_METRE) * parts * max(scales, default=0.0) * field / 1000
+    return math.hypot(METRE, METRE) * parts * max(scales, default=0.0) * field / 1000

@@ -28,5 +28,5 @@ def rounding_text(study: Study) -> str:
     volts = most_of_metres(scales, parts, study.screen.field / 1000)
     return (
         f"{HOLDS} Its spans are in whole metres: by that the voltage of a line in {field} V/km is up to {short(volts)} V off, as the "
-        f"desk works it out: half a metre to either direction of each part, times alpha and beta. {MADE}"
+        f"desk works it out: a metre to the north and to the east for each part, times alpha and beta. {MADE}"
     )
