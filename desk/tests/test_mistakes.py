@@ -516,6 +516,8 @@ PSSE = (
     Mistake(
         "two substations at one place", "gic", "2,'SOUTH',0,49.0,-100.0", "2,'SOUTH',0,50.0,-100.0",
         "net.raw line 18: L1-4-1 has a span of less than 100 m: look at the coordinates of its ends",
+        "zones.csv: zone all: the geomagnetic latitude is 60 degrees, 2.0 off the 57.9 to 58.0 of its stations as seen from the "
+        "pole of the earth's dipole: is it that of this region and of this year?",
     ),
     Mistake(
         "a beta in hundredths", "zones", "60,0.81", "60,81",

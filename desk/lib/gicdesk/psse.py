@@ -5,7 +5,7 @@ import decimal
 import math
 from collections.abc import Sequence
 
-from . import psse_factors
+from . import psse_doubts, psse_factors
 from .autos import Auto, turned_words
 from .beyond import reactor_row
 from .cases import Case, Field, Names, Row, short_enough
@@ -22,6 +22,7 @@ from .psse_units import Beyond, Unit, micro_ohm, neutral_field, volts, windings_
 from .psse_ways import Ways
 from .quantities import Number
 from .records import Record
+from .seen import Seen
 from .tables import Table
 from .usual import GROUNDS, REACTORS, unusual, unusual_line, usual_at
 from .zone_scales import FORMULA, read_alpha
@@ -75,6 +76,7 @@ class Making:
         self.factors: list[psse_factors.Row] = []
         self.units = 0  # with a winding in the network
         self.without: set[int] = set()  # buses that were told to be in no substation
+        self.unit_at: dict[str, str] = {}  # the substation of each unit
 
     def tell(self, at: Record, words: str, column: str | None = None) -> None:
         self.notes.append(at.finding(words, column))
@@ -305,6 +307,7 @@ class Making:
             if len(set(used)) < len(used):
                 unit.record.wrong(None, f"{what} has two buses that ties make one; open the tie between them")
             self.add("transformer", row, unit.name, unit.buses, unit.circuit)
+            self.unit_at[row.name] = self.substation_names[self.gic.substation_of[unit.buses[0]]]
             self.note_factor(row, data)
 
     def note_factor(self, row: Row, data: Windings) -> None:
@@ -395,6 +398,15 @@ class Making:
             self.bus_names[first] = self.names.give(name, f"B{first}")
         return self.bus_names[first]
 
+    def seen(self) -> Seen:
+        """The network as the desk's questions look at it."""
+        kilovolts = {name: float(self.raw.buses[number].kilovolts) for number, name in self.bus_names.items()}
+        places = {name: self.ways.place_of(number) for number, name in self.substation_names.items()}
+        of_zones = {zone: list(map(self.ways.place_of, sorted(stations))) for zone, stations in self.ways.stations_of.items()}
+        zones = list(psse_doubts.seen_zones(self.zones.zones, of_zones))
+        notes = psse_doubts.neutral_notes(self.case)
+        return Seen(self.case, kilovolts, places, zones, notes, at_station=self.unit_at)
+
     def buses(self) -> None:
         """The buses that a line or a winding is at; the others carry no direct current, and are told as one number."""
         members: dict[int, list[int]] = {}
@@ -445,6 +457,7 @@ def make_case(raw_file: str, gic_file: str, zone_files: ZoneFiles, choices: Choi
     findings += [Finding(files.get(name, raw_file), words) for name, words in making.case.too_many().items()]
     if findings:
         raise Refused(findings)
+    notes += psse_doubts.questions(raw, gic, making.seen(), zone_files.zones)
     origin = f"Made by gicdesk psse of {raw_file} and {gic_file}: change these, and make it again."
     text = short_enough(making.case.text(origin), raw_file, notes)
     factors = psse_factors.factors_text(making.factors, making.units, gic_file, choices.factors, notes)
