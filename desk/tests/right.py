@@ -124,7 +124,7 @@ class Maker:
             near = sorted(at[:place], key=lambda other: self.kilometres(station, other))[:2]
             pairs |= {frozenset((station, other)) for other in near}
         pairs.add(frozenset((at[0], at[-1])))
-        for pair in sorted(map(sorted, pairs)):
+        for pair in sorted(sorted(pair) for pair in pairs):
             self.line(pair, kilovolts)
 
     def line(self, ends: Sequence[str], kilovolts: int) -> None:

@@ -65,7 +65,7 @@ CASE = (
     ),
     Mistake(
         "a neutral in milli-ohm", "transformers", "2.5", "250",
-        "transformers.csv line 4, neutral: 250 ohm is not the 0.01 to 50 ohm that most neutrals have; mend "
+        "transformers.csv line 4, neutral: 250 ohm is not the 0.001 to 50 ohm that most neutrals have; mend "
         "it: in milli-ohm it would be 0.25, or give --accept=neutral:T3",
     ),
     Mistake(
@@ -498,7 +498,7 @@ PSSE = (
     ),
     Mistake(
         "a neutral of a hundred times", "gic", "'YNd1',1,0.6,2.5", "'YNd1',1,0.6,250",
-        "net.gic line 16, GRDRI: 250 ohm is not the 0.01 to 50 ohm that most neutrals have: in milli-ohm it would be 0.25",
+        "net.gic line 16, GRDRI: 250 ohm is not the 0.001 to 50 ohm that most neutrals have: in milli-ohm it would be 0.25",
     ),
     Mistake(
         "a line in milli-ohm", "gic", "1,4,'1 ',3.25", "1,4,'1 ',325",

@@ -210,7 +210,7 @@ class Making:
         rows = self.tables.rows
         notes = {name: at.text("note") for table in rows.values() for name, at in table.items()}
         notes |= {row.name: row.note for row in self.case.lists["transformer"] if row.name not in notes}
-        stations = {}
+        stations: dict[str, str] = {}
         for name, at in self.row_of.items():
             bus = rows[BUSES].get(at.text("high"))
             stations |= {} if bus is None else {name: bus.text("substation")}

@@ -42,9 +42,9 @@ def stations_of_rows(seen: Seen) -> Iterator[tuple[str, frozenset[str]]]:
         ends = frozenset(seen.station_of_bus.get(str(line.value(end)), "") for end in ("from", "to"))
         yield line.name, ends
     for unit in seen.rows("transformer"):
-        station = seen.station_of(unit)
-        if station is not None:
-            yield unit.name, frozenset([station])
+        at = seen.station_of(unit)
+        if at is not None:
+            yield unit.name, frozenset([at])
 
 
 @dataclasses.dataclass

@@ -163,7 +163,7 @@ def neutrals(seen: Seen) -> Iterator[Doubt]:
     """Neutral resistors that few units have, of which nothing else is said."""
     for unit in seen.rows("transformer"):
         ohm = number_of(unit, "neutral") / MICRO
-        is_small = 0 < ohm < LEAST_NEUTRAL and not seen.is_made
+        is_small = 0 < ohm < LEAST_NEUTRAL
         is_great = MOST_NEUTRAL < ohm <= (float(NEUTRALS[0].most) if seen.is_made else REVIEWED_NEUTRAL)
         if (is_small or is_great) and not seen.is_answered(unit.name, "resist", "neutral"):
             bound = f"less than {LEAST_NEUTRAL:g}" if is_small else f"more than {MOST_NEUTRAL:g}"

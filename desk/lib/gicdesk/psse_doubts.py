@@ -4,14 +4,14 @@ alternating current."""
 import decimal
 from collections.abc import Iterator, Mapping
 
+from .cases import Case
 from .doubts import Doubt, doubts_of
 from .findings import Finding
 from .places import Place
 from .psse_gic import Gic
 from .psse_raw import Raw
 from .seen import Seen, SeenZone
-from .cases import Case
-from .zones import Zone
+from .zone_scales import Zone
 
 NOT_GROUNDED = "its neutral is not grounded"  # the remark of a neutral that isn't one of a device
 LEAST_LINES, LEAST_PART = 5, decimal.Decimal("0.5")  # so many lines, and this part of all, have the power flow's resistance
@@ -41,10 +41,11 @@ def alternating(raw: Raw, gic: Gic) -> str | None:
     lines = [(branch, data) for branch, data in lines if branch.in_service and branch.reactance > 0 and branch.resistance > 0]
     without = copied = 0
     for branch, data in lines:
-        ohm = branch.resistance * raw.buses[branch.ends[0]].kilovolts ** 2 / raw.base_mva if branch.ends[0] in raw.buses else 0
+        kilovolts = raw.buses[branch.ends[0]].kilovolts if branch.ends[0] in raw.buses else decimal.Decimal(0)
+        ohm = branch.resistance * kilovolts * kilovolts / raw.base_mva
         without += data is None or data.ohm == 0
         copied += data is not None and data.ohm != 0 and abs(data.ohm - ohm) <= EQUAL * ohm
-    if without + copied < max(LEAST_LINES, LEAST_PART * len(lines)):
+    if without + copied < LEAST_LINES or without + copied < LEAST_PART * len(lines):
         return None
     told = [f"{without} have no RBRN"] if without else []
     told += [f"{copied} have an RBRN equal to it"] if copied else []

@@ -31,7 +31,7 @@ WINDINGS = (  # ohm per phase
     Usual(0, "0.001", "2"),
 )
 GROUNDS = (Usual(300, "0.02", "5"), Usual(100, "0.02", "10"), Usual(0, "0.05", "30"))  # ohm
-NEUTRALS = (Usual(0, "0.01", "50"),)  # ohm
+NEUTRALS = (Usual(0, "0.001", "50"),)  # ohm
 REACTORS = (Usual(300, "0.1", "20"), Usual(100, "0.05", "20"), Usual(0, "0.01", "20"))  # ohm per phase
 # The middle of what grounds at a station of a voltage have, in ohm: this project's own, of published networks and of guides.
 MIDDLE_GROUNDS = ((300, 0.2), (200, 0.3), (100, 0.5), (0, 1.0))
