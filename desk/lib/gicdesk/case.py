@@ -26,6 +26,8 @@ from .latitudes import latitude_words
 from .quantities import GROUND_OHM, KILOVOLT, LATITUDE, LONGITUDE, OHM, TOLERANCE, Number, bare, number_in, whole
 from .records import Record
 from .seen import Seen, SeenZone
+from .sources import LISTS as WITH_SOURCE
+from .sources import Sources, ZoneInputs, read_source, sources_table, zone_inputs
 from .usual import GROUNDS, short, unusual, usual_at
 from .zone_scales import read_alpha, zone_of_row
 
@@ -50,6 +52,8 @@ class Making:
         self.case, self.names = Case(), Names({name for rows in tables.rows.values() for name in rows})
         self.network = Network()
         self.row_of: dict[str, Record] = {}  # of transformers, by their names in the case
+        self.zone_inputs: dict[str, ZoneInputs] = {}
+        self.sources: dict[str, str] = {}  # of substations, lines and transformers
 
     def make(self) -> None:
         for table, make in (
@@ -80,6 +84,7 @@ class Making:
         if made is not None:
             self.network.scales[made.row.name] = made.scale
             self.case.lists["zone"].append(made.row)
+            self.zone_inputs[made.row.name] = zone_inputs(made)
 
     def latitude(self, at: Record) -> None:
         """Asks where the latitude of a zone isn't the geomagnetic one of the stations that its lines join."""
@@ -127,6 +132,7 @@ class Making:
             words = "it is empty, and a winding is earthed here, so that no current can flow in it to the earth"
             self.questions.ask(f"ground:{name}", at, "ground_ohm", words, "write its resistance")
         fields += self.tolerance(at)
+        self.sources[name] = read_source(at)
         if name not in self.network.used:
             words, ways = "no bus is in it", "look at the column substation of the buses, or leave the row out"
             self.questions.ask(f"unused:{name}", at, None, words, ways)
@@ -181,7 +187,9 @@ class Making:
         return names
 
     def line(self, at: Record) -> None:
-        line = Line(at, self.copies(at), self.tables, self.network, self.questions)
+        names = self.copies(at)
+        line = Line(at, names, self.tables, self.network, self.questions)
+        self.sources |= dict.fromkeys(names, read_source(at))
         self.case.lists["line"] += line.rows()
         self.network.used.update(line.buses)
         for zone in line.zones:
@@ -189,6 +197,7 @@ class Making:
 
     def transformer(self, at: Record) -> None:
         names = self.copies(at)
+        self.sources |= dict.fromkeys(names, read_source(at))
         for name in names:
             unit = Unit(at, name, self.tables, self.network.kilovolts, self.questions)
             rows = unit.rows() if len(names) == 1 else [side_by_side(row, len(names)) for row in unit.rows()]
@@ -196,6 +205,11 @@ class Making:
             self.row_of |= {row.name: at for row in rows}
             self.network.used.update(unit.buses)
             self.network.earthing.update(unit.earthed)
+
+    def sources_text(self) -> str:
+        """The table of sources beside the case."""
+        lists = {name: [row.name for row in self.case.lists[name]] for name in WITH_SOURCE}
+        return sources_table(Sources(self.zone_inputs, self.sources), lists).csv()
 
     # Questions
 
@@ -236,6 +250,7 @@ def side_by_side(row: Row, many: int) -> Row:
 @dataclasses.dataclass(frozen=True)
 class Made:
     case: str
+    sources: str
     notes: list[Finding]
 
 
@@ -265,4 +280,4 @@ def make_case(folder: str, choices: Choices) -> Made:
     accepted = sorted(making.questions.taken)
     if accepted:
         origin += f" Accepted: {', '.join(accepted)}."
-    return Made(short_enough(making.case.text(origin), folder, notes), notes)
+    return Made(short_enough(making.case.text(origin), folder, notes), making.sources_text(), notes)

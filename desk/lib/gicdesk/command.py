@@ -18,7 +18,7 @@ from .psse_grounds import read_grounds
 from .psse_half import HALF
 from .program import BUILT, Program, find_program
 from .stops import Stopped, signals_taken
-from .study import FILES, OPTIONS, Request, make_study, study_text
+from .study import FILES, HEAD, OPTIONS, Request, make_study, study_text
 from .study_files import WORKBOOK, files_of, page_of
 from .tell import tell
 from .workbook import LIBRARIES
@@ -206,12 +206,14 @@ def add_mitigate(commands: Any) -> None:
 
 
 def run_study(options: argparse.Namespace) -> None:
-    given = {name: getattr(options, name) for name in OPTIONS}
+    given: dict[str, Any] = {name: getattr(options, name) for name in OPTIONS}
+    given["tolerance"] = None if options.tolerance is None else grounds.read_tolerance(options.tolerance)
+    given["head"] = {name: text for name in HEAD if (text := getattr(options, name)) is not None}
     with (
         study_set(options.out, options.force, read_names(options, FILES)) as out,
         program_and_copies(options, FILES) as (program, copies),
     ):
-        made = make_study(Request(program, copies, options.case, **given))
+        made = make_study(Request(program, copies, options.case, has_devices=options.mitigate, **given))
         files = files_of(made, options.comma, options.xlsx)
         out.publish(files)
     if options.xlsx and WORKBOOK not in files:
@@ -296,6 +298,12 @@ def add_study(commands: Any) -> None:
     words.add_argument("--factors", metavar="FILE", help="a table transformer,mvar_per_ampere,at_kv, for losses")
     words.add_argument("--events", metavar="FILE", help="a table event,item,action of outages of several items")
     words.add_argument("--places", metavar="FILE", help="a table with name, latitude and longitude, for the map")
+    words.add_argument("--sources", metavar="FILE", help="the table of sources that case or psse has written beside the case")
+    words.add_argument("--tolerance", metavar="PERCENT", help="how far each ground may be off, for what holds whatever they are")
+    words.add_argument("--mitigate", action="store_true", help="a blocking device in each neutral in turn")
+    for name in HEAD:
+        told = f"the {name.replace('data_date', 'date of the data')} at the head of the page; a line to write on without it"
+        words.add_argument(f"--{name.replace('_', '-')}", metavar="TEXT", help=told)
     add_width(words)
     add_program(words)
     words.add_argument("--out", metavar="FOLDER", required=True, help="a new folder for all of it")
@@ -308,23 +316,36 @@ def add_study(commands: Any) -> None:
 def run_psse(options: argparse.Namespace) -> None:
     stem = os.path.splitext(options.out)[0]
     names, factors = f"{stem}.names.csv", f"{stem}.factors.csv"
-    written = [options.out, names, *([factors] if options.factors else [])]
+    sources = sources_file(options.out)
+    written = [options.out, names, *([factors] if options.factors else []), *([sources] if options.sources else [])]
     tables = zones.ZoneFiles(options.zones, options.substations, options.polygons, options.lines, options.earth_models)
     read = [options.raw, options.gic, *(name for name in dataclasses.astuple(tables) if name is not None)]
     grounds = read_grounds(options.blank_ground, options.ungrounded)
     choices = psse.Choices(options.beyond, options.vector, options.alpha, options.windings, grounds, options.factors)
     with files_set(written, options.force, read) as out:
         made = psse.make_case(options.raw, options.gic, tables, choices)
-        texts = {options.out: made.case, names: made.names, factors: made.factors}
+        texts = {options.out: made.case, names: made.names, factors: made.factors, sources: made.sources}
         out.publish({file_name(name): texts[name] for name in written})
     told = "".join(f"{note}\n" for note in made.notes)
     show(told + visible(f"{options.out} is made, and {names} says what its names stand for") + "\n")
 
 
+def sources_file(case_file: str) -> str:
+    """The name of the table of sources beside a case."""
+    return f"{os.path.splitext(case_file)[0]}.sources.csv"
+
+
+def add_sources(words: argparse.ArgumentParser) -> None:
+    told = "a table beside the case, for study: latitude, alpha, beta and earth model of zones, and sources of resistances"
+    words.add_argument("--sources", action="store_true", help=told)
+
+
 def run_case(options: argparse.Namespace) -> None:
-    with files_set([options.out], options.force, case_tables.files_of(options.tables)) as out:
+    written = [options.out, *([sources_file(options.out)] if options.sources else [])]
+    with files_set(written, options.force, case_tables.files_of(options.tables)) as out:
         made = case.make_case(options.tables, case.Choices(options.alpha, tuple(options.accept)))
-        out.publish({file_name(options.out): made.case})
+        texts = {options.out: made.case, sources_file(options.out): made.sources}
+        out.publish({file_name(name): texts[name] for name in written})
     show("".join(f"{note}\n" for note in made.notes) + visible(f"{options.out} is made") + "\n")
 
 
@@ -339,6 +360,7 @@ def add_case(commands: Any) -> None:
         default=[],
         help=f"take all findings of a kind as they are: {', '.join(case_tables.KINDS)}; or that of one row, as winding:T1",
     )
+    add_sources(words)
     add_new_file(words, "CASE", "a new file for the case")
     words.set_defaults(run=run_case)
 
@@ -396,6 +418,7 @@ def command_words() -> argparse.ArgumentParser:
     four.add_argument("--alpha", metavar="WAY", default=FORMULA, help=WAYS)
     four.add_argument("--beyond", choices=psse_units.CHOICES, help=told)
     four.add_argument("--factors", action="store_true", help="a table of factors for losses beside the case")
+    add_sources(four)
     taken = "half: a winding of 0 ohm has half of R1-2 of the power flow"
     four.add_argument("--windings", choices=(HALF,), help=taken)
     four.add_argument("--blank-ground", metavar="OHM", help="the ground of a substation whose RG is empty")

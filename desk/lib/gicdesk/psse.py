@@ -77,6 +77,7 @@ class Making:
         self.units = 0  # with a winding in the network
         self.without: set[int] = set()  # buses that were told to be in no substation
         self.unit_at: dict[str, str] = {}  # the substation of each unit
+        self.blank: set[str] = set()  # substations whose ground stands blank, and has that of --blank-ground
 
     def tell(self, at: Record, words: str, column: str | None = None) -> None:
         self.notes.append(at.finding(words, column))
@@ -129,6 +130,7 @@ class Making:
             usual, what = usual_at(GROUNDS, kilovolts), f"grounds at {kilovolts:f} kV"
             self.tell_unusual(substation.record, "RG", unusual(ohm, usual, what, kilovolts))
             fields.append(Field("ground", micro, f"{ohm:f} ohm to remote earth"))
+            self.blank |= {name} if substation.ground is None else set()
         place = f"{substation.latitude:f}", f"{substation.longitude:f}"
         self.add("substation", Row(name, fields), substation.name, [substation.number], "", place)
 
@@ -433,6 +435,7 @@ def branch_name(branch: Branch) -> str:
 class Made:
     case: str
     names: str
+    sources: str
     factors: str  # empty where none were asked for
     notes: list[Finding]
 
@@ -461,4 +464,5 @@ def make_case(raw_file: str, gic_file: str, zone_files: ZoneFiles, choices: Choi
     origin = f"Made by gicdesk psse of {raw_file} and {gic_file}: change these, and make it again."
     text = short_enough(making.case.text(origin), raw_file, notes)
     factors = psse_factors.factors_text(making.factors, making.units, gic_file, choices.factors, notes)
-    return Made(text, Table(NAME_HEADS, making.theirs).csv(), factors, making.notes)
+    sources = psse_doubts.sources_text(making.case, zones.zones, making.blank)
+    return Made(text, Table(NAME_HEADS, making.theirs).csv(), sources, factors, making.notes)

@@ -11,6 +11,7 @@ from .places import Place
 from .psse_gic import Gic
 from .psse_raw import Raw
 from .seen import Seen, SeenZone
+from .sources import DEFAULT, ESTIMATED, LISTS, Sources, sources_table, zone_inputs
 from .zone_scales import Zone
 
 NOT_GROUNDED = "its neutral is not grounded"  # the remark of a neutral that isn't one of a device
@@ -63,3 +64,18 @@ def questions(raw: Raw, gic: Gic, seen: Seen, zone_file: str) -> list[Finding]:
     words = alternating(raw, gic)
     found = findings_of(doubts_of(seen), zone_file, raw, gic)
     return found if words is None else [*found, Finding(raw.file, words)]
+
+
+def sources_text(case: Case, zones: list[Zone], blank: set[str]) -> str:
+    """The table of sources of a case: resistances that are taken from the power flow are estimated, and the grounds of these
+    substations, which stand blank, a default."""
+    taken = ("from per unit", "half of R1-2")
+    rows = {
+        row.name: ESTIMATED
+        for name in ("line", "transformer")
+        for row in case.lists[name]
+        if any(words in field.comment for field in row.fields for words in taken)
+    }
+    inputs = {zone.row.name: zone_inputs(zone) for zone in zones}
+    lists = {name: [row.name for row in case.lists[name]] for name in LISTS}
+    return sources_table(Sources(inputs, rows | dict.fromkeys(blank, DEFAULT)), lists).csv()
