@@ -9,7 +9,7 @@ import sys
 from collections.abc import Iterator, Sequence
 from typing import Any
 
-from . import case, case_tables, compare, grounds, layouts, losses, mitigate, outages, powermodels, powermodels_read
+from . import case, case_tables, compare, grounds, layouts, local, losses, mitigate, outages, powermodels, powermodels_read
 from . import psse, psse_units, reports, zones
 from .findings import Refused, refuse, visible
 from .inputs import Copies, copied
@@ -176,6 +176,33 @@ def add_grounds(commands: Any) -> None:
     words.add_argument("--out", metavar="FOLDER", help="a new folder for tables, and for two cases of each unit that is open")
     add_comma(words)
     words.set_defaults(run=run_grounds)
+
+
+def run_local(options: argparse.Namespace) -> None:
+    roles, depth = ("case", "switch", "places"), local.read_depth(options.storm_depth)
+    folder: contextlib.AbstractContextManager[Set | None] = contextlib.nullcontext()
+    if options.out is not None:
+        folder = new_folder(options.out, read_names(options, roles))
+    with folder as out, program_and_copies(options, roles) as (program, copies):
+        words = () if options.width is None else (f"--width={options.width}",)
+        asked = outages.Asked(program, copies, options.case, options.switch, words)
+        found = local.make_local(asked, depth, options.places)
+        if out is not None:
+            out.publish(local.files_of(found, options.comma))
+    show(local.report_text(asked, found))
+
+
+def add_local(commands: Any) -> None:
+    words = commands.add_parser("local", help="strips of zones at the field of the supplemental event: the worst for each unit")
+    add_case_file(words)
+    words.add_argument("--storm-depth", metavar="KM", required=True, help="how deep a strip is from south to north, in km")
+    words.add_argument("--places", metavar="FILE", help="a table with name, latitude and longitude; else the spans say where zones lie")
+    words.add_argument("--switch", metavar="FILE", help="switchings that are in force in each run")
+    add_width(words)
+    add_program(words)
+    words.add_argument("--out", metavar="FOLDER", help="a new folder for the tables and the storms")
+    add_comma(words)
+    words.set_defaults(run=run_local)
 
 
 def run_mitigate(options: argparse.Namespace) -> None:
@@ -401,6 +428,7 @@ def command_words() -> argparse.ArgumentParser:
 
     add_mitigate(commands)
     add_grounds(commands)
+    add_local(commands)
     add_study(commands)
     add_losses(commands)
     add_powermodels(commands)

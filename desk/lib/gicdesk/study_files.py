@@ -6,7 +6,7 @@ import os
 import shlex
 from collections.abc import Iterable, Iterator, Mapping
 
-from . import earlier, gict, outages
+from . import earlier, gict, grounds, mitigate, outages
 from .compare import ends_or_nothing
 from .decimals import MILLI, shifted
 from .files import bytes_of
@@ -16,6 +16,8 @@ from .layouts import table_of
 from .outages import Worst
 from .study import EVENT, Study, UnitFacts
 from .study_gict import picture_file
+from .study_inputs import Rest, rests_in
+from .study_margin import margin
 from .study_page import page
 from .tables import Table
 from .workbook import workbook
@@ -39,7 +41,24 @@ def page_of(folder: str) -> str:
     return os.path.join(folder, PAGE)
 
 
-def unit_cells(study: Study, unit: UnitFacts) -> list[str]:
+def rest_cells(rest: Rest | None) -> list[str]:
+    """What the verdict of a unit rests on."""
+    if rest is None:
+        return [""] * 4
+    return [rest.windings, rest.ground, *(f"{assumed} of {every}" for assumed, every in (rest.lines, rest.grounds))]
+
+
+def within_cells(study: Study, unit: UnitFacts) -> list[str]:
+    """What holds of a unit whatever the grounds are within the tolerance."""
+    found = None if study.within is None else study.within.found
+    if found is None:
+        return [""] * 4
+    holds = {row.name: row for row in found.robust.rows}[unit.name]
+    first = {one.name: one.first for one in found.units}.get(unit.name, "")
+    return [*ends_or_nothing(holds.worst), holds.verdict, first]
+
+
+def unit_cells(study: Study, unit: UnitFacts, rest: Rest | None) -> list[str]:
     network = study.network
     row = unit.benchmark
     peak: Interval | None = None if unit.peak is None else unit.peak.value
@@ -62,6 +81,10 @@ def unit_cells(study: Study, unit: UnitFacts) -> list[str]:
         "" if unit.peak is None else unit.peak.verdict,
         *(("", "") if unit.seconds is None else (str(unit.seconds.certain), str(unit.seconds.possible))),
         unit.assessed,
+        "yes" if unit.is_applicable else "no",
+        shifted(margin(study, row), MILLI) if unit.is_applicable else "",
+        *within_cells(study, unit),
+        *rest_cells(rest),
     ]
 
 
@@ -84,7 +107,10 @@ def units_table(study: Study) -> Table:
     for name in ("worst_outage", "worst_event"):
         heads += [name, *interval_heads(name), f"{name}_verdict", f"{name}_perhaps_as_bad"]
     heads += [*interval_heads("storm"), "storm_verdict", "certain_seconds", "possible_seconds", "must_be_assessed"]
-    return Table(heads, [unit_cells(study, unit) for unit in study.units])
+    heads += ["applicable", "margin_A_per_phase", *interval_heads("any_grounds"), "any_grounds_verdict", "moved_most_by"]
+    heads += ["source_of_windings", "source_of_ground", "assumed_lines", "assumed_grounds_beyond"]
+    rests = rests_in(study)
+    return Table(heads, [unit_cells(study, unit, rests.get(unit.name)) for unit in study.units])
 
 
 def losses_table(study: Study) -> Table:
@@ -164,6 +190,10 @@ def files_of(study: Study, comma: bool, has_workbook: bool = False) -> dict[str,
         for number, result in enumerate(study.events.results, 1):
             files[f"reports/{EVENT}{number}.csv"] = base.with_event(result.event)
     files |= gict_files(study, comma)
+    if study.within is not None and study.within.found is not None:
+        files |= {f"grounds/{name}": text for name, text in grounds.files_of(study.within.found, comma).items()}
+    if study.devices is not None:
+        files |= {f"mitigate/{name}": text for name, text in mitigate.files_of(study.devices, comma).items()}
     sums = checksums_text(files)
     return files | {earlier.SUMS: sums, earlier.MARKER: earlier.marker_text(sums.encode())}
 
