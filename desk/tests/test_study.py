@@ -206,8 +206,9 @@ class Folder(StudyTest):
         wave = self.file("wave.csv", WAVE)
         with mock.patch.object(study, "Progress", progress):
             self.page(f"--storm={storm}", f"--events={given}", f"--factors={drawn}", f"--waveform={wave}")
-        # Eight reports of the case, study, an event, field, three single items, two series, and four over the waveform.
-        self.assertEqual([(one.done, one.total) for one in made], [(20, 20)])
+        # Eight reports of the case, study, an event, field, three single items, two series, four over the waveform, and two of the
+        # unit that reaches the threshold of the supplemental event.
+        self.assertEqual([(one.done, one.total) for one in made], [(22, 22)])
 
     def test_decimal_commas(self) -> None:
         drawn = self.file("factors.csv", "transformer,mvar_per_ampere,at_kv\nTB,1.2,\n")

@@ -13,7 +13,7 @@ from .events import BaseSwitchings, Event, Items, one_event, read_events
 from .factors import Factor, read_factors, size, total
 from .findings import Finding, Refused, collected, refuse, visible
 from .forms import Interval
-from .gict import GicT, Maker, Subject
+from .gict import BEYOND, GicT, Maker, Subject
 from .inputs import Copies, Input
 from .network import Degrees, Network, Place, in_metres, laid_out, network_of, read_degrees
 from .outages import Asked, Outages, Result, Worst, worst_of
@@ -227,6 +227,7 @@ class Study:
     flows: Flows | None = None
     waveform: Waveform | None = None
     gict: list[GicT] = dataclasses.field(default_factory=list)  # of the units that are assessed, where there is a waveform
+    gict_beyond: list[GicT] = dataclasses.field(default_factory=list)  # of those that reach the threshold of the supplemental event
     is_recorded: bool = False  # the program, in the record of a build
     compared: Compared | None = None  # the spans with the places, where there is a table of these
     doubts: list[Doubt] = dataclasses.field(default_factory=list)  # what the desk asks beside the review
@@ -284,6 +285,11 @@ class Study:
     def beyond(self) -> list[UnitFacts]:
         """The others that reach the threshold of the supplemental event or may."""
         return [unit for unit in self.units if unit.supplemental.verdict in MUST and not unit.is_assessed]
+
+    @property
+    def all_gict(self) -> list[tuple[Screen, list[GicT]]]:
+        """Each event that has any, with its screen."""
+        return [(screen, found) for screen, found in ((self.screen, self.gict), (self.supplemental, self.gict_beyond)) if found]
 
     @property
     def switchings(self) -> list[SwitchingRow]:
@@ -636,6 +642,8 @@ def make_study(request: Request) -> Study:
         units = facts_of(screen, supplemental, outage, worst, events, storm)
         subjects = [subject_of(unit, events) for unit in units if unit.is_assessed]
         gict = run_gict(runs, tables.waveform, screen, base, subjects)
+        beyond = [Subject(unit.supplemental, None, BEYOND) for unit in units if unit.supplemental.verdict in MUST]
+        gict_beyond = run_gict(runs, tables.waveform, supplemental, base, beyond)
         devices = run_devices(runs)
     request.program.look_for_change()
     doubts = [] if network is None else doubts_of(seen_case(inputs["case"], tables.places, tables.sources))
@@ -667,6 +675,7 @@ def make_study(request: Request) -> Study:
         flows=flows,
         waveform=tables.waveform,
         gict=gict,
+        gict_beyond=gict_beyond,
         compared=spans,
         doubts=doubts,
         sources=tables.sources,

@@ -133,8 +133,8 @@ def commands_text(study: Study) -> str:
     for kept in study.kept:
         told = f"  # {visible(kept.run.line)}" if kept.run.line else ""
         lines.append(f"{kept.run.status} {kept.name} {words_text(kept.words)}{told}")
-    for one in study.gict:
-        lines += [f"0 {kind}_{one.name} {words_text(curve.words)}" for kind, curve in one.curves.items()]
+    for _, found in study.all_gict:
+        lines += [f"0 {one.subject.report(kind)} {words_text(curve.words)}" for one in found for kind, curve in one.curves.items()]
     heads = "# status, report, words; files in reports/ and gict/ lie in this folder, and others are named as they were given"
     return "\n".join([heads, *lines]) + "\n"
 
@@ -157,8 +157,8 @@ def tables_of(study: Study) -> dict[str, Table]:
     tables = {UNITS: units_table(study)}
     if study.losses is not None:
         tables[LOSSES] = losses_table(study)
-    if study.gict:
-        tables[gict.SUMMARY] = gict.summary_table(study.gict, study.screen.threshold)
+    for screen, found in study.all_gict:
+        tables[f"{found[0].subject.folder}/{gict.SUMMARY}"] = gict.summary_table(found, screen.threshold)
     for kept in study.kept:
         if kept.report is not None:
             tables[f"tables/{kept.name}"] = table_of(kept.name, kept.mode, kept.report)
@@ -200,19 +200,17 @@ def files_of(study: Study, comma: bool, has_workbook: bool = False) -> dict[str,
 
 def gict_files(study: Study, comma: bool) -> Iterator[tuple[str, str | bytes]]:
     """Of GIC(t) the field as it was given, and of each unit a table, a picture, the reports as they came, and what its runs had read."""
-    if not study.gict:
-        return
-    threshold = study.screen.threshold
-    yield gict.GIVEN_FIELD, study.gict[0].given.field.text
-    for one in study.gict:
-        subject = one.subject
-        yield subject.file("table", "csv"), gict.gict_table(one).csv(comma)
-        yield subject.file("picture", "svg"), picture_file(one, threshold)
-        yield subject.file("turned_field", "csv"), one.turned.field.text
-        if one.switchings is not None:
-            yield subject.file("switch", "csv"), one.switchings
-        for kind, curve in one.curves.items():
-            yield subject.file(kind, "txt"), curve.report
+    for screen, found in study.all_gict:
+        yield found[0].subject.given_field, found[0].given.field.text
+        for one in found:
+            subject = one.subject
+            yield subject.file("table", "csv"), gict.gict_table(one).csv(comma)
+            yield subject.file("picture", "svg"), picture_file(one, screen.threshold)
+            yield subject.file("turned_field", "csv"), one.turned.field.text
+            if one.switchings is not None:
+                yield subject.file("switch", "csv"), one.switchings
+            for kind, curve in one.curves.items():
+                yield subject.file(kind, "txt"), curve.report
 
 
 def checksums_text(files: Mapping[str, str | bytes]) -> str:

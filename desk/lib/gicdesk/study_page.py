@@ -172,7 +172,7 @@ def lead_text(study: Study) -> str:
     many, field, threshold = len(study.applicable), shifted(study.screen.field, MILLI), threshold_of(study)
     outside = len(study.units) - many
     end = f"The standard applies to {many} of {plural(len(study.units), 'unit')}, those above 200 kV with an earthed wye on the high side"
-    end += f"; of the other {outside} nothing is said." if outside else "."
+    end += f"; {outside} {'is' if outside == 1 else 'are'} outside of the assessment." if outside else "."
     if study.assessed:
         return (
             f"{count_text(study)}: in some direction of a uniform field of {field} V/km they have {threshold} A a phase or more, "
@@ -324,7 +324,8 @@ def listed_runs(study: Study) -> list[Kept]:
 
 
 def made_section(study: Study) -> Markup:
-    series = len(study.kept) - len(listed_runs(study)) + sum(len(one.curves) for one in study.gict)
+    series = len(study.kept) - len(listed_runs(study))
+    series += sum(len(one.curves) for _, found in study.all_gict for one in found)
     rows = []
     for kept in listed_runs(study):
         words = words_of(map(visible, ("gicstudy", *kept.words)))
