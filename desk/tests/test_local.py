@@ -3,10 +3,13 @@ is built, beside the plain solver."""
 
 import csv
 import math
+import re
 import tomllib
 import unittest
+from unittest import mock
 
 import plain
+import shared
 from shared import BUILT, EXAMPLES, FAKE, DeskTest
 from test_outages import BOTH, OutagesTest, screen
 
@@ -105,6 +108,12 @@ class OverReports(OutagesTest):
         # The storm of the step: 8 V/km everywhere, and 12 in the strip, at 30 degrees.
         storm = (out / "storm_1.csv").read_text().splitlines()
         self.assertEqual([line for line in storm if line.startswith("360,")], ["360,*,6928,4000", "360,Z,10392,6000"])
+
+    def test_how_far_it_has_come_is_shown_on_a_terminal(self) -> None:
+        with mock.patch.object(shared.Stream, "isatty", lambda _: True):
+            status, _, err = shared.desk("local", self.case, f"--program={FAKE}", "--storm-depth=50")
+        self.assertEqual(status, 0, err)
+        self.assertEqual(re.findall(r"\] ([0-9]+) of ([0-9]+) ", err)[-1], ("4", "4"))
 
     def test_what_is_refused(self) -> None:
         for depth in ("0", "-5", "km", "6000", "1e2"):

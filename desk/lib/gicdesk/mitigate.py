@@ -191,6 +191,8 @@ def make_mitigation(asked: Asked, device: Device, paired: int) -> Mitigation:
 
 def tried_devices(asked: Asked, device: Device, paired: int, progress: Progress) -> Mitigation:
     """The same as a part of other work."""
+    progress.total += 1
+    progress.next("screen")
     whole_network = whole_result(asked)
     if whole_network.screen is None:
         raise refuse(asked.case, f"its network is {whole_network.outcome.word} at {whole_network.outcome.node}; mend that before")
