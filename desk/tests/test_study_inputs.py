@@ -113,7 +113,7 @@ class Margin(StudyTest):
         self.assertEqual([units[name]["applicable"] for name in ("TA", "TB", "D")], ["yes", "yes", "no"])
         told = self.text_of("units", page)
         self.assertIn("Units that the standard applies to: 2", told)
-        self.assertIn("The others, which nothing is judged of: 1", told)
+        self.assertIn("Other units, outside of the assessment: 1", told)
 
     def test_what_holds_within_a_tolerance(self) -> None:
         self.prints("robust", robust(ROBUST))
@@ -124,7 +124,7 @@ class Margin(StudyTest):
         self.assertIn("With each ground within 20 per cent of the case's: 1 reaches, 0 below, 1 undecided.", told)
         self.assertIn("TA reaches 98.767 -23.767 90.000 108.000 reaches – –", told)
         self.assertIn("TB reaches 98.767 -23.767 70.000 82.000 undecided 0.000 to 0.002", told)
-        self.assertIn("1 unit left open: TB.", told)
+        self.assertIn("1 unit is left open: TB .", told)
         self.assertTrue((self.out / "reports" / "robust.txt").is_file())
         self.assertTrue((self.out / "grounds" / "greatest_TB.toml").is_file())
         self.assertIn(f"0 robust gicstudy robust --case={self.case} --tolerance=20", (self.out / "commands.txt").read_text())

@@ -10,11 +10,11 @@ from .case_rows import case_of
 from .cases import Case, Row
 from .counts import plural
 from .decimals import MILLI, shifted
-from .markup import Markup, table, tag
+from .markup import Markup, joined, table, tag
 from .seen import buses_of, number_of
 from .sources import ASSUMED, DEFAULT, ESTIMATED, MEASURED, Sources, decimal_text
 from .study import MUST, Study, UnitFacts
-from .study_words import ABSENT, amperes, made, names_text, section, verdict
+from .study_words import ABSENT, amperes, made, names_whole, section, verdict
 
 ZONE_HEADS = ("zone", "geomagnetic latitude", "alpha", "how alpha was made", "beta", "alpha times beta", "earth model")
 COUNT_HEADS = ("resistances", MEASURED, ESTIMATED, DEFAULT, "not said")
@@ -149,18 +149,20 @@ def counts_table(case: Case, sources: Sources) -> Markup:
     return table(COUNT_HEADS, rows, ("name", *["n"] * 4))
 
 
-def rest_words(study: Study, rests: Mapping[str, Rest]) -> str:
+def rest_words(study: Study, rests: Mapping[str, Rest]) -> Markup:
     """How many verdicts rest on assumed numbers."""
     judged = [unit for unit in study.applicable if unit.name in rests]
     assumed = [unit for unit in judged if rests[unit.name].is_assumed]
     at = [unit for unit in assumed if unit.benchmark.verdict in MUST]
-    below = [unit for unit in assumed if unit.benchmark.verdict not in MUST]
+    below = [unit.name for unit in assumed if unit.benchmark.verdict not in MUST]
     words = f"The verdicts of {len(assumed)} of {plural(len(judged), 'applicable unit')} rest on assumed resistances"
     words += f": {len(at)} at the threshold or perhaps, and {len(below)} below"
-    return words + (f" ({names_text([unit.name for unit in below])})." if below else ".")
+    return joined((words, *((" (", names_whole(below), ")") if below else ()), "."))
 
 
 def part_text(part: tuple[int, int]) -> str:
+    if not part[1]:
+        return ABSENT
     return f"{part[0]} of {part[1]} assumed" if part[0] else f"{part[1]}, none assumed"
 
 

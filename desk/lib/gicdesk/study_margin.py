@@ -6,11 +6,11 @@ from .counts import plural
 from .decimals import MILLI, shifted
 from .forms import Interval
 from .grounds import Grounds, OpenUnit, open_names, verdicts_text
-from .markup import Markup, table, tag
+from .markup import Markup, joined, table, tag
 from .mitigate import SHOWN, Mitigation, measure_cells
 from .reports import Robust, ScreenUnit
 from .study import Study, UnitFacts, Within
-from .study_words import ABSENT, amperes, made, names_text, section, threshold_of, verdict
+from .study_words import ABSENT, amperes, made, names_whole, section, threshold_of, verdict
 
 HEADS = (("unit", "name"), ("verdict", ""), ("worst, A", "n"), ("margin, A", "n"))
 WITHIN_HEADS = (("at least, A", "n"), ("at most, A", "n"), ("whatever the grounds", ""), ("found, A", "n"), ("moved most by", ""))
@@ -25,6 +25,7 @@ NOTE_WITHIN = (
 )
 NO_TOLERANCE = "No tolerance of grounds was given: --tolerance=PERCENT says how far each may be off, and which to measure next."
 NEXT_HEADS = ("measure", "then")
+NOTE_NEXT = "A row counts the verdicts of all units where this ground, and each of those above it, is as the case has it."
 DEVICE_HEADS = ("neutral", "at the threshold", "greatest worst, A", "in", "no longer", "newly")
 NOTE_DEVICES = (
     "Each row is a screen of the case with a blocking device in the neutral of one unit, and a row with fewer units at the threshold "
@@ -64,10 +65,11 @@ def next_pieces(found: Grounds) -> list[Markup]:
     left = open_names(found.robust)
     if not left:
         return [tag("p", "No unit is left open: no ground need be measured for a verdict.")]
-    words = f"{plural(len(left), 'unit')} left open: {names_text(left)}. A ground that is known to be as the case has it leaves fewer open:"
+    many = f"{plural(len(left), 'unit')} {'is' if len(left) == 1 else 'are'} left open: "
+    words = joined((many, names_whole(left), ". A ground that is known to be as the case has it leaves fewer open:"))
     rows = [(one.grounds[-1], verdicts_text(one.robust)) for one in found.measured]
     heading = tag("h3", "What to measure next")
-    return [heading, tag("p", words), table(NEXT_HEADS, rows, ("name", "")), made("Each row with the grounds above it.")]
+    return [heading, tag("p", words), table(NEXT_HEADS, rows, ("name", "")), made(NOTE_NEXT)]
 
 
 def tolerance_pieces(within: Within | None) -> list[Markup]:

@@ -13,9 +13,9 @@ from .reports import Screen, ScreenUnit
 from .study import BY_EVENT, BY_LIST, BY_OUTAGE, EVENT, MUST, Kept, Study, UnitFacts, count_text
 from .study_gict import gict_section
 from .study_head import signed_head, title_of
-from .study_inputs import inputs_section
+from .study_inputs import inputs_section, rest_words, rests_in
 from .study_map import map_section
-from .study_margin import devices_section, margin_section
+from .study_margin import devices_section, margin_section, robust_words
 from .study_storm import losses_section, storm_section
 from .study_style import STYLE
 from .study_units import directions_section, units_section
@@ -217,6 +217,16 @@ def groups_beside(study: Study) -> list[Markup]:
     ]
 
 
+def grounds_notes(study: Study) -> list[Markup]:
+    """How far the answer depends on numbers that may be off, as far as that was asked."""
+    notes = []
+    if study.within is not None and study.within.found is not None:
+        notes.append(tag("p", robust_words(study.within.found.robust), " See ", tag("a", TITLES["margin"], href="#margin"), "."))
+    if study.sources is not None and study.sources.of_rows:
+        notes.append(tag("p", rest_words(study, rests_in(study)), " See ", tag("a", TITLES["inputs"], href="#inputs"), "."))
+    return notes
+
+
 def answer_section(study: Study) -> Markup:
     outcomes = [*study.outage.outcomes]
     if study.events is not None:
@@ -233,6 +243,7 @@ def answer_section(study: Study) -> Markup:
         notes.append(tag("p", "All of it is said of the case as it is written, of which ", asked, f" {stand} below."))
     if study.assessed != study.brought(BY_EVENT):
         notes.append(tag("p", OUTAGE_NOTE))
+    notes += grounds_notes(study)
     notes += [tag("p", note) for note in study.notes]
     note = (
         "Beside each name stands the high end of its worst current, in amperes a phase, as the program printed it. What "

@@ -121,7 +121,7 @@ def units_section(study: Study) -> Markup:
     others = [unit for unit in study.units if not unit.is_applicable]
     pieces = [tag("h3", f"Units that the standard applies to: {len(study.applicable)}"), listed(study.applicable)]
     if others:
-        pieces += [tag("h3", f"The others, which nothing is judged of: {len(others)}"), listed(others)]
+        pieces += [tag("h3", f"Other units, outside of the assessment: {len(others)}"), listed(others)]
     lead = tag("p", f"In the benchmark event: {words}. The greatest worst current stands first.")
     return section("units", lead, *pieces, made(note), class_="wide")
 
