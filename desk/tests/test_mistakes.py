@@ -377,12 +377,12 @@ CASE = (
     Mistake(
         "a head with a slip", "lines", "name,from,to", "name,form,to",
         'lines.csv line 1: it has no column from, and "form" is none of its columns; allowed are '
-        "name,from,to,zone,ohm,north_km,east_km,capacitor, and per_unit,parallel,note",
+        "name,from,to,zone,ohm,north_km,east_km,capacitor, and per_unit,parallel,source,note",
     ),
     Mistake(
         "a column that isn't one", "lines", "capacitor,note", "capacitor,length",
         'lines.csv line 1: "length" is none of its columns; allowed are '
-        "name,from,to,zone,ohm,north_km,east_km,capacitor, and per_unit,parallel,note",
+        "name,from,to,zone,ohm,north_km,east_km,capacitor, and per_unit,parallel,source,note",
     ),
     Mistake(
         "a column that stands twice", "lines", "capacitor,note", "capacitor,ohm",

@@ -56,14 +56,14 @@ def is_are(names: Sequence[str]) -> str:
 def zone_latitudes(seen: Seen) -> Iterator[Doubt]:
     for zone in seen.zones:
         off = latitude_off(zone.latitude, zone.places)
-        if off is not None:
+        if off is not None and not seen.is_answered(zone.name):
             words = f"the geomagnetic latitude is {zone.latitude:g} degrees, {off}: is it that of this region and of this year?"
             yield Doubt("latitude", "zone", (zone.name,), f"zone {zone.name}: {words}")
 
 
 def zone_betas(seen: Seen) -> Iterator[Doubt]:
     for zone in seen.zones:
-        if zone.beta < LEAST_BETA and not zone.model:
+        if zone.beta < LEAST_BETA and not zone.model and not seen.is_answered(zone.name):
             words = f"beta is {zone.beta:g}, and no earth model is named: of which model is it?"
             yield Doubt("beta", "zone", (zone.name,), f"zone {zone.name}: {words}")
 
@@ -73,7 +73,7 @@ def grounds_of(seen: Seen) -> list[Row]:
 
 
 def equal_grounds(seen: Seen) -> Iterator[Doubt]:
-    rows = grounds_of(seen)
+    rows = [row for row in grounds_of(seen) if not seen.is_answered(row.name)]
     numbers = {number_of(row, "ground") for row in rows}
     if len(rows) >= LEAST_GROUNDS and len(numbers) == 1:
         words = f"All {len(rows)} grounds have {ohm_text(numbers.pop())}: was each of them measured, or is it a default?"
@@ -82,7 +82,7 @@ def equal_grounds(seen: Seen) -> Iterator[Doubt]:
 
 def great_grounds(seen: Seen) -> Iterator[Doubt]:
     """Where the middle one of all grounds is some times what is usual at the voltage of its station."""
-    rows = [row for row in grounds_of(seen) if seen.highest(row.name) > 0]
+    rows = [row for row in grounds_of(seen) if seen.highest(row.name) > 0 and not seen.is_answered(row.name)]
     ratios = [number_of(row, "ground") / MICRO / usual_ground(seen.highest(row.name)) for row in rows]
     if len(rows) < LEAST_GROUNDS or statistics.median(ratios) < TIMES:
         return
@@ -133,7 +133,7 @@ def alternating(seen: Seen) -> Iterator[Doubt]:
     lines = [
         Line(row.name, seen.bus_kilovolts(row.value("from")), seen.kilometres(row), number_of(row, "resistance") / MICRO)
         for row in seen.rows("line")
-        if row.value("blocked") is not True
+        if row.value("blocked") is not True and not seen.is_answered(row.name)
     ]
     for found in greater_lines(lines):
         more = f"{100 * found.least:.0f} to {100 * found.most:.0f}" if found.most - found.least > 0.01 else f"{100 * found.most:.0f}"
