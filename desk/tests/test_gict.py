@@ -182,8 +182,32 @@ class Study(StudyTest):
             self.prints(f"screen+{item}", screen(below, below))
         head = test_outages.OUTAGE.partition("transformer")[0]
         self.prints("outage", f"{head}transformer TA worst {below}\ntransformer TB worst {below}\ntransformer D none\nend\n")
-        self.assertIn("No unit is assessed", self.text_of("gict", self.page(self.wave)))
+        told = self.text_of("gict", self.page(self.wave))
+        self.assertIn("No unit is assessed by the benchmark event", told)
+        self.assertEqual([path.name for path in (self.out / "gict").iterdir()], ["supplemental"])
+        self.out = self.folder / "neither"
+        self.prints("screen-supplemental", screen(below, below))
+        self.assertIn("No unit is assessed, so", self.text_of("gict", self.page(self.wave)))
         self.assertFalse((self.out / "gict").exists())
+
+    def test_the_supplemental_event(self) -> None:
+        """TA alone reaches its threshold there: the waveform is scaled to its field, as a part of its own."""
+        other = screen("120000 120002 reaches", "84000 84002 below")
+        self.prints("screen-supplemental", other.replace("75000 field 8000", "85000 field 12000"))
+        told = self.text_of("gict", self.page(self.wave))
+        self.assertIn("Supplemental event, for units with 85.000 A or more in the network as it stands, or perhaps", told)
+        self.assertIn("It is scaled to 12.000 V/km there.", told)
+        folder = self.out / "gict" / "supplemental"
+        made = {path.name for path in folder.iterdir()}
+        kinds = {"given_TA.txt", "turned_TA.txt", "turned_field_TA.csv", "table_TA.csv", "picture_TA.svg"}
+        self.assertEqual(made, kinds | {"given_field.csv", "summary.csv"})
+        # The strongest step of the waveform is 5 mV/km or V/km, 3 to the north and 4 to the east: scaled to 12 V/km.
+        self.assertIn("60,7200,9600", (folder / "given_field.csv").read_text())
+        with open(folder / "summary.csv", newline="") as file:
+            (row,) = csv.DictReader(file)
+        self.assertEqual((row["transformer"], row["worst_high_A_per_phase"], row["out"]), ("TA", "120.002", ""))
+        words = "--storm=gict/supplemental/turned_field_TA.csv --transformer=TA"
+        self.assertIn(f"0 supplemental_turned_TA gicstudy series --case={self.case} {words}", (self.out / "commands.txt").read_text())
 
     def test_a_series_of_other_steps_is_refused(self) -> None:
         for other in (SERIES.replace("time 60", "time 61"), SERIES.replace("120 74999 75001", f"120 0 {10**30}")):

@@ -11,7 +11,7 @@ from gicdesk.forms import Interval
 from gicdesk.neighbours import Graph, low_parts, low_text
 from gicdesk.reactors import worst_of
 from gicdesk.reports import Question
-from gicdesk.reviewed import marks_of, review_questions
+from gicdesk.reviewed import asked_of, marks_of, review_questions
 
 # A chain of seven stations S0 to S6, each with a unit T0 to T6, of which a capacitor blocks the line from S5 to S6.
 CHAIN: dict[str, Any] = {
@@ -31,7 +31,7 @@ CHAIN: dict[str, Any] = {
 class Near(unittest.TestCase):
     def marks(self, *questions: Question) -> dict[str, list[int]]:
         asked = review_questions(questions, None, CHAIN)
-        return marks_of(asked, [one.text for one in asked], CHAIN)
+        return marks_of(asked, CHAIN)
 
     def test_units_within_three_lines(self) -> None:
         self.assertEqual(set(self.marks(Question("ungrounded", "S0"))), {"T0", "T1", "T2", "T3"})
@@ -67,8 +67,9 @@ class Near(unittest.TestCase):
         (asked,) = review_questions([Question("value", "L0", "line", "span", 0)], None, case)
         self.assertEqual(asked.text, "line L0: the span is 0 km, as few have it: is it meant?")
 
-    def test_questions_in_words_are_about_what_they_name(self) -> None:
-        marks = marks_of([], ["Is the ground of S6 meant?", "All grounds are 0.5 ohm: are they?"], CHAIN)
+    def test_questions_of_the_desk_are_about_their_rows(self) -> None:
+        asked = asked_of([("one", ("S6",)), ("all", tuple(f"S{place}" for place in range(7)))], CHAIN)
+        marks = marks_of(asked, CHAIN)
         self.assertEqual((marks["T6"], marks["T0"]), ([1, 2], [2]))
 
 

@@ -248,6 +248,9 @@ class Small(PsseTest):
                 "net.gic line 18: the reactor 7 '1' is left out",
                 "net.gic line 19: the reactor 7 '2' is out of service: it is left out",
                 "net.raw: 3 of 8 buses have no line and no grounded winding: they are left out",
+                "zones.csv: zone all: the geomagnetic latitude is 60 degrees, 2.0 off the 57.0 to 58.0 of its stations as seen "
+                "from the pole of the earth's dipole: is it that of this region and of this year?",
+                "net.gic: T4-6-1 has a neutral resistor of 2.5 ohm, and few have more than 1 ohm: is it there, and in ohm?",
                 "net.gic: 2 of 2 units have a KFACTOR, or a CORE with a factor: --factors writes a table of them for "
                 "the losses of study",
                 "case.toml is made, and case.names.csv says what its names stand for",

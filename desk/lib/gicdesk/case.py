@@ -19,12 +19,16 @@ from .case_tables import (
 from .case_lines import Line, Network
 from .case_units import Unit
 from .cases import LISTS, Case, Field, Names, Row, short_enough
+from .doubts import Doubt, doubts_of
 from .findings import Finding, Refused, shown
 from .forms import NAME
 from .latitudes import latitude_words
 from .quantities import GROUND_OHM, KILOVOLT, LATITUDE, LONGITUDE, OHM, TOLERANCE, Number, bare, number_in, whole
 from .records import Record
 from .rounding import Rounding
+from .seen import Seen, SeenZone
+from .sources import LISTS as WITH_SOURCE
+from .sources import Sources, ZoneInputs, read_source, sources_table, zone_inputs
 from .usual import GROUNDS, short, unusual, usual_at
 from .zone_scales import read_alpha, zone_of_row
 
@@ -49,6 +53,9 @@ class Making:
         self.case, self.names = Case(), Names({name for rows in tables.rows.values() for name in rows})
         self.network = Network()
         self.rounding = Rounding()
+        self.row_of: dict[str, Record] = {}  # of transformers, by their names in the case
+        self.zone_inputs: dict[str, ZoneInputs] = {}
+        self.sources: dict[str, str] = {}  # of substations, lines and transformers
 
     def make(self) -> None:
         for table, make in (
@@ -79,6 +86,7 @@ class Making:
         if made is not None:
             self.network.scales[made.row.name] = made.scale
             self.case.lists["zone"].append(made.row)
+            self.zone_inputs[made.row.name] = zone_inputs(made)
 
     def latitude(self, at: Record) -> None:
         """Asks where the latitude of a zone isn't the geomagnetic one of the stations that its lines join."""
@@ -130,6 +138,7 @@ class Making:
             words = "it is empty, and a winding is earthed here, so that no current can flow in it to the earth"
             self.questions.ask(f"ground:{name}", at, "ground_ohm", words, "write its resistance")
         fields += self.tolerance(at)
+        self.sources[name] = read_source(at)
         if name not in self.network.used:
             words, ways = "no bus is in it", "look at the column substation of the buses, or leave the row out"
             self.questions.ask(f"unused:{name}", at, None, words, ways)
@@ -184,23 +193,70 @@ class Making:
         return names
 
     def line(self, at: Record) -> None:
-        line = Line(at, self.copies(at), self.tables, self.network, self.questions, rounding=self.rounding)
+        names = self.copies(at)
+        line = Line(at, names, self.tables, self.network, self.questions, rounding=self.rounding)
+        self.sources |= dict.fromkeys(names, read_source(at))
         self.case.lists["line"] += line.rows()
         self.network.used.update(line.buses)
         for zone in line.zones:
             self.network.stations_of.setdefault(zone, set()).update(line.stations)
 
     def transformer(self, at: Record) -> None:
-        for name in self.copies(at):
+        names = self.copies(at)
+        self.sources |= dict.fromkeys(names, read_source(at))
+        for name in names:
             unit = Unit(at, name, self.tables, self.network.kilovolts, self.questions)
-            self.case.lists["transformer"] += unit.rows()
+            rows = unit.rows() if len(names) == 1 else [side_by_side(row, len(names)) for row in unit.rows()]
+            self.case.lists["transformer"] += rows
+            self.row_of |= {row.name: at for row in rows}
             self.network.used.update(unit.buses)
             self.network.earthing.update(unit.earthed)
+
+    def sources_text(self) -> str:
+        """The table of sources beside the case."""
+        lists = {name: [row.name for row in self.case.lists[name]] for name in WITH_SOURCE}
+        return sources_table(Sources(self.zone_inputs, self.sources), lists).csv()
+
+    # Questions
+
+    def seen_zone(self, at: Record) -> SeenZone:
+        stations = sorted(self.network.stations_of.get(at.text("name"), set()))
+        places = [self.network.places[name] for name in stations if name in self.network.places]
+        numbers = [float(at.number(column)) for column in ("geomagnetic_latitude", "beta")]
+        return SeenZone(at.text("name"), numbers[0], numbers[1], at.text("earth_model"), places)
+
+    def doubts(self) -> list[Finding]:
+        """What is asked about the network; none of it keeps the case from being made."""
+        rows = self.tables.rows
+        notes = {name: at.text("note") for table in rows.values() for name, at in table.items()}
+        notes |= {row.name: row.note for row in self.case.lists["transformer"] if row.name not in notes}
+        stations: dict[str, str] = {}
+        for name, at in self.row_of.items():
+            bus = rows[BUSES].get(at.text("high"))
+            stations |= {} if bus is None else {name: bus.text("substation")}
+        kilovolts = {name: float(number) for name, number in self.network.kilovolts.items()}
+        zones = [self.seen_zone(at) for at in rows[ZONES].values()]
+        seen = Seen(self.case, kilovolts, self.network.places, zones, notes, at_station=stations)
+        return [self.asked(doubt) for doubt in doubts_of(seen)]
+
+    def asked(self, doubt: Doubt) -> Finding:
+        """A question as it is told: with its line where it is about one row."""
+        table = {list_name: table for table, list_name in zip(COLUMNS, LISTS)}[doubt.list]
+        named = [self.row_of.get(name) or self.tables.rows[table].get(name) for name in doubt.names]
+        places = list(dict.fromkeys((at.file, at.line) for at in named if at is not None))
+        return Finding(places[0][0], doubt.text, places[0][1] if len(places) == 1 else None)
+
+
+def side_by_side(row: Row, many: int) -> Row:
+    """A row of several equal ones, with a remark that says so."""
+    words = f"one of {many} equal ones side by side"
+    return dataclasses.replace(row, note=f"{row.note}; {words}" if row.note else words)
 
 
 @dataclasses.dataclass(frozen=True)
 class Made:
     case: str
+    sources: str
     notes: list[Finding]
     rounding: str
 
@@ -224,11 +280,12 @@ def make_case(folder: str, choices: Choices) -> Made:
     making.make()
     if tables.findings:
         raise Refused(in_order(tables, tables.findings))
-    notes = in_order(tables, making.notes)
+    notes = in_order(tables, [*making.notes, *making.doubts()])
     left = "it takes nothing away; leave it out"
     notes += [Finding(f"--accept={name}", left) for name in making.questions.left()]
     origin = "Made by gicdesk case: change the tables, and make it again."
     accepted = sorted(making.questions.taken)
     if accepted:
         origin += f" Accepted: {', '.join(accepted)}."
-    return Made(short_enough(making.case.text(origin), folder, notes), notes, making.rounding.text)
+    text = short_enough(making.case.text(origin), folder, notes)
+    return Made(text, making.sources_text(), notes, making.rounding.text)

@@ -9,7 +9,7 @@ import sys
 from collections.abc import Iterator, Sequence
 from typing import Any
 
-from . import case, case_tables, compare, grounds, layouts, losses, mitigate, outages, powermodels
+from . import case, case_tables, compare, grounds, layouts, local, losses, mitigate, outages, powermodels
 from . import powermodels_read, powermodels_reading, psse, psse_shifters, psse_units, reports, reviews, zones
 from .findings import Finding, Refused, refuse, visible
 from .inputs import Copies, copied
@@ -19,7 +19,7 @@ from .psse_grounds import read_grounds
 from .psse_half import HALF
 from .program import BUILT, Program, find_program
 from .stops import Stopped, signals_taken
-from .study import FILES, OPTIONS, Request, make_study, study_text
+from .study import FILES, HEAD, OPTIONS, Request, make_study, study_text
 from .study_files import WORKBOOK, files_of, page_of
 from .tell import tell
 from .workbook import LIBRARIES
@@ -179,6 +179,33 @@ def add_grounds(commands: Any) -> None:
     words.set_defaults(run=run_grounds)
 
 
+def run_local(options: argparse.Namespace) -> None:
+    roles, depth = ("case", "switch", "places"), local.read_depth(options.storm_depth)
+    folder: contextlib.AbstractContextManager[Set | None] = contextlib.nullcontext()
+    if options.out is not None:
+        folder = new_folder(options.out, read_names(options, roles))
+    with folder as out, program_and_copies(options, roles) as (program, copies):
+        words = () if options.width is None else (f"--width={options.width}",)
+        asked = outages.Asked(program, copies, options.case, options.switch, words)
+        found = local.make_local(asked, depth, options.places)
+        if out is not None:
+            out.publish(local.files_of(found, options.comma))
+    show(local.report_text(asked, found))
+
+
+def add_local(commands: Any) -> None:
+    words = commands.add_parser("local", help="strips of zones at the field of the supplemental event: the worst for each unit")
+    add_case_file(words)
+    words.add_argument("--storm-depth", metavar="KM", required=True, help="how deep a strip is from south to north, in km")
+    words.add_argument("--places", metavar="FILE", help="a table with name, latitude and longitude; else the spans say where zones lie")
+    words.add_argument("--switch", metavar="FILE", help="switchings that are in force in each run")
+    add_width(words)
+    add_program(words)
+    words.add_argument("--out", metavar="FOLDER", help="a new folder for the tables and the storms")
+    add_comma(words)
+    words.set_defaults(run=run_local)
+
+
 def run_mitigate(options: argparse.Namespace) -> None:
     roles, names = ("case", "switch"), [mitigate.RANKING, mitigate.CURRENTS, mitigate.BEST]
     device, paired = mitigate.read_device(options.ohm), mitigate.read_pairs(options.pairs)
@@ -207,12 +234,14 @@ def add_mitigate(commands: Any) -> None:
 
 
 def run_study(options: argparse.Namespace) -> None:
-    given = {name: getattr(options, name) for name in OPTIONS}
+    given: dict[str, Any] = {name: getattr(options, name) for name in OPTIONS}
+    given["tolerance"] = None if options.tolerance is None else grounds.read_tolerance(options.tolerance)
+    given["head"] = {name: text for name in HEAD if (text := getattr(options, name)) is not None}
     with (
         study_set(options.out, options.force, read_names(options, FILES)) as out,
         program_and_copies(options, FILES) as (program, copies),
     ):
-        made = make_study(Request(program, copies, options.case, **given))
+        made = make_study(Request(program, copies, options.case, has_devices=options.mitigate, **given))
         files = files_of(made, options.comma, options.xlsx)
         out.publish(files)
     if options.xlsx and WORKBOOK not in files:
@@ -324,6 +353,12 @@ def add_study(commands: Any) -> None:
     words.add_argument("--factors", metavar="FILE", help="a table transformer,mvar_per_ampere,at_kv, for losses")
     words.add_argument("--events", metavar="FILE", help="a table event,item,action of outages of several items")
     words.add_argument("--places", metavar="FILE", help="a table with name, latitude and longitude, for the map")
+    words.add_argument("--sources", metavar="FILE", help="the table of sources that case or psse has written beside the case")
+    words.add_argument("--tolerance", metavar="PERCENT", help="how far each ground may be off, for what holds whatever they are")
+    words.add_argument("--mitigate", action="store_true", help="a blocking device in each neutral in turn")
+    for name in HEAD:
+        told = f"the {name.replace('data_date', 'date of the data')} at the head of the page; a line to write on without it"
+        words.add_argument(f"--{name.replace('_', '-')}", metavar="TEXT", help=told)
     add_width(words)
     add_program(words)
     words.add_argument("--out", metavar="FOLDER", required=True, help="a new folder for all of it")
@@ -336,7 +371,8 @@ def add_study(commands: Any) -> None:
 def run_psse(options: argparse.Namespace) -> None:
     stem = os.path.splitext(options.out)[0]
     names, factors = f"{stem}.names.csv", f"{stem}.factors.csv"
-    written = [options.out, names, *([factors] if options.factors else [])]
+    sources = sources_file(options.out)
+    written = [options.out, names, *([factors] if options.factors else []), *([sources] if options.sources else [])]
     tables = zones.ZoneFiles(options.zones, options.substations, options.polygons, options.lines, options.earth_models)
     beside = (*dataclasses.astuple(tables), options.core_factors)
     read = [options.raw, options.gic, *(name for name in beside if name is not None)]
@@ -349,16 +385,28 @@ def run_psse(options: argparse.Namespace) -> None:
     choices = psse.Choices(*taken, cores)
     with files_set(written, options.force, read) as out:
         made = psse.make_case(options.raw, options.gic, tables, choices)
-        texts = {options.out: made.case, names: made.names, factors: made.factors}
+        texts = {options.out: made.case, names: made.names, factors: made.factors, sources: made.sources}
         out.publish({file_name(name): texts[name] for name in written})
     told = made_text(made.notes, options.out, made.rounding)
     show(told + visible(f"{options.out} is made, and {names} says what its names stand for") + "\n")
 
 
+def sources_file(case_file: str) -> str:
+    """The name of the table of sources beside a case."""
+    return f"{os.path.splitext(case_file)[0]}.sources.csv"
+
+
+def add_sources(words: argparse.ArgumentParser) -> None:
+    told = "a table beside the case, for study: latitude, alpha, beta and earth model of zones, and sources of resistances"
+    words.add_argument("--sources", action="store_true", help=told)
+
+
 def run_case(options: argparse.Namespace) -> None:
-    with files_set([options.out], options.force, case_tables.files_of(options.tables)) as out:
+    written = [options.out, *([sources_file(options.out)] if options.sources else [])]
+    with files_set(written, options.force, case_tables.files_of(options.tables)) as out:
         made = case.make_case(options.tables, case.Choices(options.alpha, tuple(options.accept)))
-        out.publish({file_name(options.out): made.case})
+        texts = {options.out: made.case, sources_file(options.out): made.sources}
+        out.publish({file_name(name): texts[name] for name in written})
     show(made_text(made.notes, options.out, made.rounding) + visible(f"{options.out} is made") + "\n")
 
 
@@ -373,6 +421,7 @@ def add_case(commands: Any) -> None:
         default=[],
         help=f"take all findings of a kind as they are: {', '.join(case_tables.KINDS)}; or that of one row, as winding:T1",
     )
+    add_sources(words)
     add_new_file(words, "CASE", "a new file for the case")
     words.set_defaults(run=run_case)
 
@@ -413,6 +462,7 @@ def command_words() -> argparse.ArgumentParser:
 
     add_mitigate(commands)
     add_grounds(commands)
+    add_local(commands)
     add_review(commands)
     add_study(commands)
     add_losses(commands)
@@ -433,6 +483,7 @@ def command_words() -> argparse.ArgumentParser:
     four.add_argument("--factors", action="store_true", help="a table of factors for losses beside the case")
     cores = "a table core,mvar_per_ampere,at_kv, in the place of the published factors of cores and beside them"
     four.add_argument("--core-factors", metavar="FILE", help=cores)
+    add_sources(four)
     taken = "half: a winding of 0 ohm has half of R1-2 of the power flow"
     four.add_argument("--windings", choices=(HALF,), help=taken)
     shifter = "a unit between two buses of one voltage: line, a resistance in series, or windings, by its vector group"

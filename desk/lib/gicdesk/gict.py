@@ -25,11 +25,11 @@ from .tables import Table
 from .together import together
 from .waveforms import FieldSteps, Waveform
 
-FOLDER = "gict"  # of the study
+FOLDER = "gict"  # of the study, for the benchmark event
+BEYOND = f"{FOLDER}/supplemental"  # for the supplemental one
 TURNED, GIVEN = "turned", "given"
 KINDS = (TURNED, GIVEN)  # of curves, in the order in which they are run
-SUMMARY = f"{FOLDER}/summary"  # a table
-GIVEN_FIELD = f"{FOLDER}/given_field.csv"
+SUMMARY, GIVEN_FIELD = "summary", "given_field.csv"  # in the folder: a table, and a file
 
 
 @dataclasses.dataclass(frozen=True)
@@ -38,10 +38,16 @@ class Subject:
 
     row: ScreenUnit
     event: Event | None
+    folder: str = FOLDER
 
     @property
     def name(self) -> str:
         return self.row.name
+
+    @property
+    def given_field(self) -> str:
+        """The name of the file with the field as it was given."""
+        return f"{self.folder}/{GIVEN_FIELD}"
 
     @property
     def toward(self) -> complex:
@@ -58,9 +64,13 @@ class Subject:
     def out_text(self) -> str:
         return "" if self.event is None else str(self.event)
 
+    def report(self, kind: str) -> str:
+        """The name of a series of the unit among the commands."""
+        return f"{kind}_{self.name}" if self.folder == FOLDER else f"supplemental_{kind}_{self.name}"
+
     def file(self, kind: str, ending: str) -> str:
         """The name of a file of the unit in the study's folder."""
-        return f"{FOLDER}/{kind}_{self.name}.{ending}"
+        return f"{self.folder}/{kind}_{self.name}.{ending}"
 
 
 @dataclasses.dataclass(frozen=True)
@@ -152,12 +162,12 @@ class Maker:
             switchings = switchings_of(self.base, subject.event)
             turned = self.waveform.scaled(self.strength, subject.toward)
             yield Job(subject, turned, subject.file("turned_field", "csv"), switchings)
-            yield Job(subject, given, GIVEN_FIELD, switchings)
+            yield Job(subject, given, subject.given_field, switchings)
 
     def run_job(self, job: Job) -> Run:
         try:
             with tempfile.TemporaryDirectory(dir=self.scratch) as folder:
-                pathlib.Path(folder, FOLDER).mkdir()
+                pathlib.Path(folder, job.subject.folder).mkdir(parents=True)
                 pathlib.Path(folder, job.field_file).write_text(job.field.text)
                 if job.switchings is not None:
                     pathlib.Path(folder, job.subject.file("switch", "csv")).write_text(job.switchings)

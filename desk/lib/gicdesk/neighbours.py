@@ -7,14 +7,12 @@ it is small against the width of what anybody knows of a network.
 import collections
 import dataclasses
 import functools
-import re
 from collections.abc import Iterable, Mapping, Sequence
 from typing import Any
 
 from .reports import Question
 
 REACH = 3  # lines
-WORD = re.compile(r"[A-Za-z0-9_.-]+")
 LOW_VOLTS = 60_000  # below it a part of units alone is one of a kind that is asked about once
 WINDINGS = ("high", "low", "third")
 Rows = Sequence[Mapping[str, Any]]
@@ -110,10 +108,6 @@ class Graph:
                 found[self.groups.of(row["high"])].append(row["name"])
         return found
 
-    @functools.cached_property
-    def names(self) -> set[str]:
-        return {row["name"] for name in ("zone", "substation", "bus", "line", "transformer") for row in self.rows(name)}
-
     def stations(self, name: str) -> set[str]:
         """The stations of a row of any list."""
         if name in self.ends:
@@ -142,12 +136,6 @@ class Graph:
     def changed_by(self, question: Question) -> set[str]:
         """The units that the answer to a finding of the review can change."""
         return set(self.part(question.name)) if question.kind == "part" else self.near([question.name])
-
-    def changed_by_text(self, text: str) -> set[str]:
-        """The same of a question by its words: the rows that it names; where it names none it is about all units."""
-        words = (word.strip(".") for word in WORD.findall(text))
-        named = {word for word in words if word in self.names and not word.replace(".", "").isdigit()}
-        return self.near(named) if named else set(self.station_of_unit)
 
 
 def is_low(graph: Graph, question: Question) -> bool:

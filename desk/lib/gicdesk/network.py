@@ -37,6 +37,7 @@ class Network:
     links: list[Link]
     station_of: dict[str, str]  # of each transformer with a bus
     volts: dict[str, int]  # the rated voltage of each transformer's high side
+    names: frozenset[str] = frozenset()  # of all rows
 
 
 def span_of(row: dict[str, Any]) -> tuple[int, int]:
@@ -72,6 +73,7 @@ def network_of(data: bytes) -> Network | None:
         links,
         {row["name"]: buses[row["high"]] for row in units if "high" in row},
         {row["name"]: row["high_volts"] for row in units},
+        frozenset(row["name"] for rows in case.values() if isinstance(rows, list) for row in rows),
     )
 
 

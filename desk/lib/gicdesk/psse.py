@@ -5,7 +5,7 @@ import decimal
 import math
 from collections.abc import Sequence
 
-from . import psse_factors
+from . import psse_doubts, psse_factors
 from .autos import Auto, turned_words
 from .beyond import reactor_row
 from .cases import Case, Field, Names, Row, short_enough
@@ -24,6 +24,7 @@ from .psse_ways import Ways
 from .quantities import Number
 from .records import Record
 from .rounding import Rounding, meant, written
+from .seen import Seen
 from .tables import Table
 from .usual import GROUNDS, REACTORS, unusual, unusual_line, usual_at
 from .zone_scales import FORMULA, read_alpha
@@ -79,6 +80,8 @@ class Making:
         self.bus_names: dict[int, str] = {}
         self.factors = psse_factors.Factors(choices.cores)
         self.without: set[int] = set()  # buses that were told to be in no substation
+        self.unit_at: dict[str, str] = {}  # the substation of each unit
+        self.blank: set[str] = set()  # substations whose ground stands blank, and has that of --blank-ground
 
     def tell(self, at: Record, words: str, column: str | None = None) -> None:
         self.notes.append(at.finding(words, column))
@@ -131,6 +134,7 @@ class Making:
             usual, what = usual_at(GROUNDS, kilovolts), f"grounds at {kilovolts:f} kV"
             self.tell_unusual(substation.record, "RG", unusual(ohm, usual, what, kilovolts))
             fields.append(Field("ground", micro, f"{ohm:f} ohm to remote earth"))
+            self.blank |= {name} if substation.ground is None else set()
         latitude, longitude = ("", "") if substation.place is None else (f"{degrees:f}" for degrees in substation.place)
         self.add("substation", Row(name, fields), substation.name, [substation.number], "", (latitude, longitude))
 
@@ -319,6 +323,7 @@ class Making:
             if len(set(used)) < len(used):
                 unit.record.wrong(None, f"{what} has two buses that ties make one; open the tie between them")
             self.add("transformer", row, unit.name, unit.buses, unit.circuit)
+            self.unit_at[row.name] = self.substation_names[self.gic.substation_of[unit.buses[0]]]
             self.note_factor(row, data)
 
     def shifter(self, shifter: Shifter, data: Windings, shares: Shares) -> None:
@@ -422,6 +427,15 @@ class Making:
             self.bus_names[first] = self.names.give(name, f"B{first}")
         return self.bus_names[first]
 
+    def seen(self) -> Seen:
+        """The network as the desk's questions look at it."""
+        kilovolts = {name: float(self.raw.buses[number].kilovolts) for number, name in self.bus_names.items()}
+        places = {self.substation_names[number]: place for number, place in self.ways.places_of(self.substation_names).items()}
+        of_zones = {zone: list(self.ways.places_of(sorted(stations)).values()) for zone, stations in self.ways.stations_of.items()}
+        zones = list(psse_doubts.seen_zones(self.zones.zones, of_zones))
+        notes = psse_doubts.neutral_notes(self.case)
+        return Seen(self.case, kilovolts, places, zones, notes, at_station=self.unit_at)
+
     def buses(self) -> None:
         """The buses that a line or a winding is at; the others carry no direct current, and are told as one number."""
         members: dict[int, list[int]] = {}
@@ -448,6 +462,7 @@ def branch_name(branch: Branch) -> str:
 class Made:
     case: str
     names: str
+    sources: str
     factors: str  # empty where none were asked for
     notes: list[Finding]
     rounding: str
@@ -473,7 +488,9 @@ def make_case(raw_file: str, gic_file: str, zone_files: ZoneFiles, choices: Choi
     findings += [Finding(files.get(name, raw_file), words) for name, words in making.case.too_many().items()]
     if findings:
         raise Refused(findings)
+    notes += psse_doubts.questions(raw, gic, making.seen(), zone_files.zones)
     origin = f"Made by gicdesk psse of {raw_file} and {gic_file}: change these, and make it again."
     text = short_enough(making.case.text(origin), raw_file, notes)
     factors = making.factors.text(gic_file, choices.factors, notes)
-    return Made(text, Table(NAME_HEADS, making.theirs).csv(), factors, making.notes, making.rounding.text)
+    sources = psse_doubts.sources_text(making.case, zones.zones, making.blank)
+    return Made(text, Table(NAME_HEADS, making.theirs).csv(), sources, factors, making.notes, making.rounding.text)

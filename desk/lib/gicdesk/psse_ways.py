@@ -1,13 +1,13 @@
 """Where the branches of a power flow lie: their spans, and their zones by tables and polygons."""
 
-from collections.abc import Sequence
+from collections.abc import Iterable, Sequence
 
 from .borders import Stretch
 from .decimals import MILLI, shifted
 from .findings import Finding
 from .latitudes import latitude_words
 from .parts import Piece, Span, crossed_zones, pieces_of, pieces_text, way_fault
-from .places import MOST_KM, SPAN_FROM_MAP_M, exact_metres, span_metres
+from .places import MOST_KM, SPAN_FROM_MAP_M, Place, exact_metres, span_metres
 from .polygons import zone_of
 from .psse_gic import Gic
 from .psse_raw import Branch, title
@@ -160,3 +160,8 @@ class Ways:
             words = latitude_words(float(at.number("geomagnetic_latitude")), places)
             if words is not None:
                 self.tell(at, f"{words}; look up the geomagnetic one of the year", "geomagnetic_latitude")
+
+    def places_of(self, substations: Iterable[int]) -> dict[int, Place]:
+        """The places of these substations, as far as they have any."""
+        found = {number: self.gic.substations[number].place for number in substations}
+        return {number: place for number, place in found.items() if place is not None}

@@ -42,17 +42,18 @@ def within_text(question: Question, graph: Graph) -> str:
     return f"line {question.name} joins two buses of {start}, and has no span: is it a phase shifter, or does it lead to another station?"
 
 
-def marks_of(asked: Sequence[Asked], texts: Sequence[str], case: dict[str, Any] | None) -> dict[str, list[int]]:
-    """The numbers of the questions that can change a unit, from 1 on in the order of their texts. A question that isn't among those
-    that are asked here is about the rows that it names."""
-    if case is None:
-        return {}
-    graph, known = Graph(case), {one.text: one.units for one in asked}
-    units = [row["name"] for row in graph.rows("transformer")]
+def asked_of(questions: Sequence[tuple[str, Sequence[str]]], case: dict[str, Any] | None) -> list[Asked]:
+    """Questions in words about rows of these names, with the units that are near to any of them."""
+    graph = Graph({} if case is None else case)
+    return [Asked(text, frozenset(graph.near(names))) for text, names in questions]
+
+
+def marks_of(asked: Sequence[Asked], case: dict[str, Any] | None) -> dict[str, list[int]]:
+    """The numbers of the questions that can change a unit, from 1 on."""
+    units = [row["name"] for row in Graph({} if case is None else case).rows("transformer")]
     marks: dict[str, list[int]] = {}
-    for number, text in enumerate(texts, 1):
-        changed = known[text] if text in known else graph.changed_by_text(text)
+    for number, one in enumerate(asked, 1):
         for unit in units:
-            if unit in changed:
+            if unit in one.units:
                 marks.setdefault(unit, []).append(number)
     return marks

@@ -6,14 +6,15 @@ import functools
 from collections.abc import Iterable, Iterator, Mapping
 from typing import Any, TypeVar
 
-from . import outages
+from . import grounds, mitigate, outages
 from .counts import plural
 from .directions import STEP, bearing_of, current_at, direction_counts, parts_of
+from .doubts import Doubt, doubts_of
 from .events import BaseSwitchings, Event, Items, one_event, read_events
 from .factors import Factor, read_factors, size, total
 from .findings import Finding, Refused, collected, refuse, visible
 from .forms import Interval
-from .gict import GicT, Maker, Subject
+from .gict import BEYOND, GicT, Maker, Subject
 from .inputs import Copies, Input
 from .network import Degrees, Network, Place, in_metres, laid_out, network_of, read_case, read_degrees
 from .outages import Asked, Outages, Result, Worst, worst_of
@@ -28,6 +29,7 @@ from .reports import (
     Outage,
     Report,
     Review,
+    Robust,
     Screen,
     ScreenUnit,
     Series,
@@ -37,17 +39,20 @@ from .reports import (
 )
 from .reports import Study as StormReport
 from .reviewed import Asked as AskedOf
-from .reviewed import marks_of, review_questions
+from .reviewed import asked_of, marks_of, review_questions
+from .sources import Sources, read_sources
 from .spans import Compared, compared
 from .study_marks import marks_lines
 from .storms import Seconds, StormStep, SwitchingRow, seconds_above, storm_steps, switching_rows
 from .storm_notes import factor_notes, field_notes, switching_notes, time_notes, zone_notes
+from .study_seen import seen_case
 from .together import together
 from .waveforms import Waveform, read_waveform
 
 Kind = TypeVar("Kind")
-OPTIONS = ("storm", "switch", "waveform", "factors", "events", "places", "width")
+OPTIONS = ("storm", "switch", "waveform", "factors", "events", "places", "sources", "width")
 FILES = ("case", *OPTIONS[:-1])
+HEAD = ("title", "project", "author", "revision", "data_date")  # what is said at the head of the page
 EVENT = "event_"  # the report of an event, with its number behind
 SHOWN = 40  # units and questions on the terminal
 MUST = ("reaches", "undecided")  # the verdicts of a unit that must be assessed
@@ -68,7 +73,11 @@ class Request:
     factors: str | None = None
     events: str | None = None
     places: str | None = None
+    sources: str | None = None
     width: str | None = None
+    tolerance: int | None = None  # in per cent, of grounds
+    has_devices: bool = False  # whether a blocking device is tried in each neutral
+    head: Mapping[str, str] = dataclasses.field(default_factory=dict)  # by the words of HEAD
 
     @property
     def case_word(self) -> str:
@@ -184,6 +193,20 @@ class UnitFacts:
     def is_assessed(self) -> bool:
         return self.assessed != BY_NOTHING
 
+    @property
+    def is_applicable(self) -> bool:
+        """Whether the standard applies to it: its high side has more than 200 kV and an earthed wye. The program judges these alone."""
+        return self.benchmark.verdict != "outside"
+
+
+@dataclasses.dataclass(frozen=True)
+class Within:
+    """What holds whatever the grounds are within a tolerance; or the line of the program where nothing is said of that."""
+
+    tolerance: int
+    found: grounds.Grounds | None
+    fault: str = ""
+
 
 @dataclasses.dataclass(frozen=True)
 class Study:
@@ -209,9 +232,14 @@ class Study:
     flows: Flows | None = None
     waveform: Waveform | None = None
     gict: list[GicT] = dataclasses.field(default_factory=list)  # of the units that are assessed, where there is a waveform
+    gict_beyond: list[GicT] = dataclasses.field(default_factory=list)  # of those that reach the threshold of the supplemental event
     is_recorded: bool = False  # the program, in the record of a build
     compared: Compared | None = None  # the spans with the places, where there is a table of these
     reactors: Reactors = Reactors()
+    doubts: list[Doubt] = dataclasses.field(default_factory=list)  # what the desk asks beside the review
+    sources: Sources | None = None
+    within: Within | None = None
+    devices: mitigate.Mitigation | None = None
 
     @functools.cached_property
     def case(self) -> dict[str, Any] | None:
@@ -219,18 +247,19 @@ class Study:
         return next((read_case(given.data) for given in self.inputs if given.role == "case"), None)
 
     @functools.cached_property
-    def reviewed(self) -> list[AskedOf]:
-        return review_questions(self.review.questions, self.compared, self.case)
+    def asked(self) -> list[AskedOf]:
+        """What the writer of the case is asked: by the spans that don't fit the places, by the review, and by the desk."""
+        reviewed = review_questions(self.review.questions, self.compared, self.case)
+        return reviewed + asked_of([(doubt.text, doubt.names) for doubt in self.doubts], self.case)
 
     @property
     def questions(self) -> list[str]:
-        """What the writer of the case is asked: by the spans that don't fit the places, and by the review."""
-        return [asked.text for asked in self.reviewed]
+        return [asked.text for asked in self.asked]
 
     @functools.cached_property
     def marks(self) -> dict[str, list[int]]:
         """Of each unit the numbers of the questions that can change what is said of it."""
-        return marks_of(self.reviewed, self.questions, self.case)
+        return marks_of(self.asked, self.case)
 
     @property
     def notes(self) -> list[str]:
@@ -253,6 +282,11 @@ class Study:
         """The units that reach the threshold or may, in the order of `units`."""
         return [unit for unit in self.units if unit.is_assessed]
 
+    @property
+    def applicable(self) -> list[UnitFacts]:
+        """The units that the standard applies to, in the order of `units`."""
+        return [unit for unit in self.units if unit.is_applicable]
+
     def brought(self, by: str) -> list[UnitFacts]:
         """Those that this brings to the threshold, in the order of `units`."""
         return [unit for unit in self.units if unit.assessed == by]
@@ -261,6 +295,11 @@ class Study:
     def beyond(self) -> list[UnitFacts]:
         """The others that reach the threshold of the supplemental event or may."""
         return [unit for unit in self.units if unit.supplemental.verdict in MUST and not unit.is_assessed]
+
+    @property
+    def all_gict(self) -> list[tuple[Screen, list[GicT]]]:
+        """Each event that has any, with its screen."""
+        return [(screen, found) for screen, found in ((self.screen, self.gict), (self.supplemental, self.gict_beyond)) if found]
 
     @property
     def switchings(self) -> list[SwitchingRow]:
@@ -340,6 +379,7 @@ class Tables:
     factors: dict[str, Factor]
     places: dict[str, Degrees]
     waveform: Waveform | None
+    sources: Sources | None
 
 
 def read_tables(request: Request, network: Network | None, items: Items) -> Tables:
@@ -349,6 +389,7 @@ def read_tables(request: Request, network: Network | None, items: Items) -> Tabl
     factors: dict[str, Factor] = {}
     places: dict[str, Degrees] = {}
     waveform: Waveform | None = None
+    sources: Sources | None = None
     unread = "it needs the case, which is in TOML 1.1; write the case without what only TOML 1.1 has"
     with collected(findings):
         if request.events is not None:
@@ -366,9 +407,14 @@ def read_tables(request: Request, network: Network | None, items: Items) -> Tabl
     with collected(findings):
         if request.waveform is not None:
             waveform = read_waveform(request.waveform, request.data("waveform"))
+    with collected(findings):
+        if request.sources is not None and network is None:
+            raise refuse(request.sources, unread)
+        if request.sources is not None and network is not None:
+            sources = read_sources(request.sources, network.names, findings, request.data("sources"))
     if findings:
         raise Refused(findings)
-    return Tables(events, factors, places, waveform)
+    return Tables(events, factors, places, waveform, sources)
 
 
 def worst_outages(runner: outages.Runner, outage: Outage, progress: Progress) -> dict[str, Worst]:
@@ -449,6 +495,27 @@ def run_gict(runs: Runs, waveform: Waveform | None, screen: Screen, base: BaseSw
     runs.progress.total += 2 * len(subjects)
     maker = Maker(waveform, screen.field, base, request.copies.folder, request.run, request.case_word, request.words)
     return maker.make(subjects, runs.progress.next)
+
+
+def run_within(runs: Runs, screen: Screen) -> Within | None:
+    """What holds within the tolerance of grounds. That the program can't say it is told, and the study goes on."""
+    request, tolerance = runs.request, runs.request.tolerance
+    if tolerance is None:
+        return None
+    judge = grounds.Judge(request.asked, tolerance)
+    runs.progress.next("robust")
+    run = judge.run_robust(request.asked)
+    runs.keep("robust", "robust", (*request.screen_words, f"--tolerance={tolerance}"), run)
+    if run.network_fault is not None:
+        return Within(tolerance, None, run.line)
+    return Within(tolerance, grounds.found_grounds(judge, screen, runs.last_report(Robust), runs.progress))
+
+
+def run_devices(runs: Runs) -> mitigate.Mitigation | None:
+    """What a blocking device in each neutral in turn does."""
+    if not runs.request.has_devices:
+        return None
+    return mitigate.tried_devices(runs.request.asked, mitigate.Device(), 0, runs.progress)
 
 
 def run_losses(runs: Runs, factors: dict[str, Factor], screen: Screen, words: tuple[str, ...]) -> Losses | None:
@@ -572,7 +639,9 @@ def make_study(request: Request) -> Study:
     """Runs all that is asked, in the order in which faults of the files come early."""
     began, commit = datetime.datetime.now().astimezone(), commit_of(request.program.checksum)
     inputs = request.copies.inputs
-    with Progress(8) as progress:
+    if request.tolerance is not None:
+        grounds.look_for_mode(request.program)
+    with Progress(8 + (request.tolerance is not None)) as progress:
         runs = Runs(request, progress)
         basis = look_at_case(runs, inputs["case"])
         network, screen, supplemental = basis.network, basis.screen, basis.supplemental
@@ -585,6 +654,7 @@ def make_study(request: Request) -> Study:
         flows = run_flows(runs, screen, request.screen_words)
         reactors = run_reactors(runs, inputs["case"], screen, request.screen_words)
         losses = run_losses(runs, tables.factors, screen, request.screen_words)
+        within = run_within(runs, screen)
         events, worst = outages_and_worst(runs, basis, base, tables.events, outage)
         units = facts_of(screen, supplemental, outage, worst, events, storm)
         progress.total -= expected
@@ -592,7 +662,11 @@ def make_study(request: Request) -> Study:
         units = facts_of(screen, supplemental, outage, worst, events, storm)
         subjects = [subject_of(unit, events) for unit in units if unit.is_assessed]
         gict = run_gict(runs, tables.waveform, screen, base, subjects)
+        beyond = [Subject(unit.supplemental, None, BEYOND) for unit in units if unit.supplemental.verdict in MUST]
+        gict_beyond = run_gict(runs, tables.waveform, supplemental, base, beyond)
+        devices = run_devices(runs)
     request.program.look_for_change()
+    doubts = [] if network is None else doubts_of(seen_case(inputs["case"], tables.places, tables.sources))
     places, parts = ({}, 0) if network is None else laid_out(network, in_metres(tables.places))
     spans = None
     if network is not None and tables.places:
@@ -621,8 +695,13 @@ def make_study(request: Request) -> Study:
         flows=flows,
         waveform=tables.waveform,
         gict=gict,
+        gict_beyond=gict_beyond,
         compared=spans,
         reactors=reactors,
+        doubts=doubts,
+        sources=tables.sources,
+        within=within,
+        devices=devices,
     )
 
 
@@ -637,10 +716,12 @@ def shown_current(value: Interval) -> int:
 
 
 def count_text(study: Study) -> str:
-    """How many units must be assessed by the event, and how many more something out brings to the threshold."""
+    """How many of the units that the standard applies to must be assessed by the event, and how many more something out brings to
+    the threshold."""
     counts = {by: len(study.brought(by)) for by in (BY_EVENT, BY_OUTAGE, BY_LIST)}
     more = [f"{many} more {by}" for by, many in counts.items() if by != BY_EVENT and many]
-    by_event = f"{counts[BY_EVENT] or 'None'} of {plural(len(study.units), 'unit')} must be assessed by the benchmark event"
+    units = plural(len(study.applicable), "applicable unit")
+    by_event = f"{counts[BY_EVENT] or 'None'} of {units} must be assessed by the benchmark event"
     return ", and ".join([by_event, *([", ".join(more)] if more else [])])
 
 

@@ -1,6 +1,7 @@
 """The units of a study's page: their table, and their currents by the direction of the field."""
 
 from collections import Counter
+from collections.abc import Sequence
 
 from . import pictures, study_marks
 from .decimals import MILLI, shifted
@@ -132,14 +133,17 @@ def units_section(study: Study) -> Markup:
     note += study_marks.NOTE if study.marks else ""
     counts = Counter(unit.benchmark.verdict for unit in study.units)
     words = ", ".join(f"{counts[word]} {word}" for word in VERDICTS)
-    rows = [unit_cells(study, unit) for unit in study.units]
-    return section(
-        "units",
-        tag("p", f"In the benchmark event: {words}. The greatest worst current stands first."),
-        table([head for head, _ in heads], rows, [class_ for _, class_ in heads], class_="units keeps"),
-        made(note),
-        class_="wide",
-    )
+
+    def listed(units: Sequence[UnitFacts]) -> Markup:
+        rows = [unit_cells(study, unit) for unit in units]
+        return table([head for head, _ in heads], rows, [class_ for _, class_ in heads], class_="units keeps")
+
+    others = [unit for unit in study.units if not unit.is_applicable]
+    pieces = [tag("h3", f"Units that the standard applies to: {len(study.applicable)}"), listed(study.applicable)]
+    if others:
+        pieces += [tag("h3", f"Other units, outside of the assessment: {len(others)}"), listed(others)]
+    lead = tag("p", f"In the benchmark event: {words}. The greatest worst current stands first.")
+    return section("units", lead, *pieces, made(note), class_="wide")
 
 
 def counts_text(study: Study, counts: list[int]) -> str:
