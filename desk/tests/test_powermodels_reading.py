@@ -230,8 +230,8 @@ class Odd(ReadingTest):
             for _ in range(drawn.choice((1, 2, 5))):
                 self.spoil(drawn, datas, table)
             files = [self.file(f"{way}.json", json.dumps(data)) for way, data in enumerate(datas)]
-            options = drawn.choice(([], ["--grounds=ohm"], ["--resistances=phase"], ["--field=8"]))
-            status, _, _ = desk("from-powermodels", *files, f"--out={self.folder / 'case.toml'}", "--force", *options)
+            option = drawn.choice(("--grounds=siemens", "--grounds=ohm", "--resistances=phase", "--field=8"))
+            status, _, _ = desk("from-powermodels", *files, f"--out={self.folder / 'case.toml'}", "--force", option)
             self.assertIn(status, (0, 1))
 
     def spoil(self, drawn: random.Random, datas: list[Data], table: str) -> None:
