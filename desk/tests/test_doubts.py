@@ -11,8 +11,12 @@ from shared import EXAMPLES, DeskTest
 from gicdesk.case_rows import case_of
 from gicdesk.doubt_lines import Line, greater_lines
 from gicdesk.doubts import doubts_of
+from gicdesk.findings import Finding
+from gicdesk.inputs import Input
 from gicdesk.latitudes import latitude_off
 from gicdesk.seen import Seen, kilovolts_of, remarks_of
+from gicdesk.sources import read_sources
+from gicdesk.study_seen import seen_case
 from gicdesk.usual import Number
 
 SIZES = (12, 20, 30, 45, 60)  # stations of right networks, of which there are twenty
@@ -35,18 +39,28 @@ class DoubtsTest(DeskTest):
         for name, text in texts_of(tables).items():
             (folder / f"{name}.csv").write_text(text)
         self.out = self.folder / "case.toml"
-        *lines, last = self.done("case", folder, f"--out={self.out}", "--force").splitlines()
+        *lines, last = self.done("case", folder, f"--out={self.out}", "--sources", "--force").splitlines()
         self.assertEqual(last, f"{self.out} is made")
         return [line.replace(f"{folder}/", "") for line in lines]
+
+    def seen_beside(self, tables: Tables) -> list[str]:
+        """The questions about the case as `study` has them with the tables of places and of sources."""
+        given = Input("case", "case.toml", self.out.read_bytes())
+        case, findings = case_of(given.name, given.data), list[Finding]()
+        names = [row.name for rows in case.lists.values() for row in rows]
+        sources = read_sources("sources", names, findings, (self.folder / "case.sources.csv").read_bytes())
+        places = {row["name"]: (float(row["latitude"]), float(row["longitude"])) for row in tables["substations"]}
+        self.assertEqual(findings, [])
+        return [doubt.text for doubt in doubts_of(seen_case(given, places, sources))]
 
 
 class Right(DoubtsTest):
     def test_no_question_about_twenty_right_networks(self) -> None:
-        """Neither of the tables nor of the case that is made of them."""
+        """Neither of the tables nor of the case that is made of them, alone and with its places and sources."""
         asked = {}
         for seed in range(20):
-            lines = self.told(right_tables(seed, SIZES[seed % len(SIZES)]))
-            asked[seed] = lines + seen_in(self.out.read_bytes())
+            tables = right_tables(seed, SIZES[seed % len(SIZES)])
+            asked[seed] = self.told(tables) + seen_in(self.out.read_bytes()) + self.seen_beside(tables)
         self.assertEqual({seed: lines for seed, lines in asked.items() if lines}, {})
 
     def test_no_question_about_the_examples(self) -> None:
@@ -176,6 +190,18 @@ class Planted(DoubtsTest):
             unit["note"] = note
             self.assertEqual(self.told(tables), [])
             self.assertEqual(seen_in(self.out.read_bytes()), [])
+
+
+class Studies(DoubtsTest):
+    def test_zones_are_asked_about_by_the_table_of_sources(self) -> None:
+        """The case has another latitude and another beta, since alpha is by the formula."""
+        tables = right_tables(SEED, STATIONS)
+        latitude_off_by_two(tables)
+        beta_without_a_model(tables)
+        self.told(tables)
+        self.assertEqual(seen_in(self.out.read_bytes()), [])
+        asked = self.seen_beside(tables)
+        self.assertEqual([text.partition(":")[0] for text in asked], ["zone west", "zone east"])
 
 
 class Parts(unittest.TestCase):
