@@ -6,7 +6,7 @@ import unittest
 from collections.abc import Callable
 
 from right import Cells, Tables, right_tables, texts_of
-from shared import EXAMPLES, DeskTest
+from shared import EXAMPLES, TESTS, DeskTest
 
 from gicdesk.case_rows import case_of
 from gicdesk.doubt_lines import Line, greater_lines
@@ -14,6 +14,7 @@ from gicdesk.doubts import doubts_of
 from gicdesk.findings import Finding
 from gicdesk.inputs import Input
 from gicdesk.latitudes import latitude_off
+from gicdesk.psse_raw import read_raw
 from gicdesk.seen import Seen, kilovolts_of, remarks_of
 from gicdesk.sources import read_sources
 from gicdesk.study_seen import seen_case
@@ -239,6 +240,45 @@ transformer = [
         (found,) = greater_lines([*lines, Line("AC", 345, 80, 80 * 0.0345), Line("other", 345, 80, 80 * 0.04)])
         self.assertEqual((found.names, found.kilovolts), (("AC",), 345))
         self.assertAlmostEqual(found.most, 0.15)
+
+
+class PowerFlow(DoubtsTest):
+    PAIR = TESTS / "pair"
+
+    def told_of(self, gic: str) -> list[str]:
+        """What is asked of the pair of the region with these resistances."""
+        given, out = self.file("net.gic", gic), self.folder / "case.toml"
+        words = (f"--zones={self.PAIR / 'zones.csv'}", f"--lines={self.PAIR / 'lines.csv'}", f"--out={out}", "--force")
+        lines = self.done("psse", self.PAIR / "region.raw", given, *words).splitlines()
+        return [line.rpartition("/")[2] for line in lines if line.endswith("?")]
+
+    def test_the_questions_of_a_power_flow(self) -> None:
+        """Of the region a device and a resistor, and that its resistances of lines are those of the power flow: a file of these
+        has no notes."""
+        gic = (self.PAIR / "region.gic").read_text()
+        self.assertEqual(
+            self.told_of(gic),
+            [
+                "net.gic: GP-G1 has a neutral resistor of 2.5 ohm, and few have more than 1 ohm: is it there, and in ohm?",
+                "net.gic: The neutral of KS-A1 is blocked: is a blocking device there, and in service?",
+                "region.raw: 38 of 38 lines have the resistance of the power flow (38 have no RBRN), which is mostly that for "
+                "alternating current and a warm line, 10 to 20 per cent too much: is that for direct current known?",
+            ],
+        )
+
+    def test_resistances_that_are_copied_or_of_their_own(self) -> None:
+        """The lines of the pair with an RBRN that is the power flow's resistance, and with one that is 12 per cent less."""
+        gic = (self.PAIR / "region.gic").read_text()
+        findings, notes = list[Finding](), list[Finding]()
+        raw = read_raw(str(self.PAIR / "region.raw"), findings, notes)
+        head, _, rest = gic.partition("BEGIN BRANCH DATA")
+        for factor, is_asked in (("1", True), ("0.88", False)):
+            rows = ""
+            for branch in raw.branches:
+                ohm = branch.resistance * raw.buses[branch.ends[0]].kilovolts ** 2 / raw.base_mva * Number(factor)
+                rows += f"{branch.ends[0]},{branch.ends[1]},'{branch.circuit}',{ohm:.6f},0,0,0,0\n"
+            told = self.told_of(f"{head}BEGIN BRANCH DATA{rest.partition(chr(10))[0]}\n{rows}{rest.partition(chr(10))[2]}")
+            self.assertEqual(any("38 have an RBRN equal to it" in line for line in told), is_asked, told)
 
 
 if __name__ == "__main__":
