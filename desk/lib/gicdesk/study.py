@@ -204,6 +204,14 @@ class Within:
 
 
 @dataclasses.dataclass(frozen=True)
+class Devices:
+    """What a blocking device in each neutral in turn does; or why none can be tried."""
+
+    found: mitigate.Mitigation | None
+    fault: str = ""
+
+
+@dataclasses.dataclass(frozen=True)
 class Study:
     request: Request
     began: datetime.datetime
@@ -233,7 +241,7 @@ class Study:
     doubts: list[Doubt] = dataclasses.field(default_factory=list)  # what the desk asks beside the review
     sources: Sources | None = None
     within: Within | None = None
-    devices: mitigate.Mitigation | None = None
+    devices: Devices | None = None
 
     @property
     def questions(self) -> list[str]:
@@ -382,6 +390,9 @@ def read_tables(request: Request, network: Network | None, items: Items) -> Tabl
     sources: Sources | None = None
     unread = "it needs the case, which is in TOML 1.1; write the case without what only TOML 1.1 has"
     with collected(findings):
+        if network is None and (request.tolerance is not None or request.has_devices):
+            raise refuse("--mitigate" if request.tolerance is None else f"--tolerance={request.tolerance}", unread)
+    with collected(findings):
         if request.events is not None:
             events = read_events(request.events, items, request.data("events"))
     with collected(findings):
@@ -501,11 +512,14 @@ def run_within(runs: Runs, screen: Screen) -> Within | None:
     return Within(tolerance, grounds.found_grounds(judge, screen, runs.last_report(Robust), runs.progress))
 
 
-def run_devices(runs: Runs) -> mitigate.Mitigation | None:
-    """What a blocking device in each neutral in turn does."""
+def run_devices(runs: Runs) -> Devices | None:
+    """What a blocking device in each neutral in turn does. That none can be tried is told, and the study goes on."""
     if not runs.request.has_devices:
         return None
-    return mitigate.tried_devices(runs.request.asked, mitigate.Device(), 0, runs.progress)
+    try:
+        return Devices(mitigate.tried_devices(runs.request.asked, mitigate.Device(), 0, runs.progress))
+    except Refused as refused:
+        return Devices(None, "; ".join(finding.words for finding in refused.findings))
 
 
 def run_losses(runs: Runs, factors: dict[str, Factor], screen: Screen, words: tuple[str, ...]) -> Losses | None:
@@ -631,7 +645,7 @@ class Found:
     units: list[UnitFacts]
     gict: list[GicT]
     gict_beyond: list[GicT]
-    devices: mitigate.Mitigation | None
+    devices: Devices | None
 
 
 def run_all(runs: Runs, inputs: Mapping[str, Input]) -> Found:
