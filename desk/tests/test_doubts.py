@@ -6,13 +6,18 @@ import unittest
 from collections.abc import Callable
 
 from right import Cells, Tables, right_tables, texts_of
-from shared import EXAMPLES, DeskTest
+from shared import EXAMPLES, TESTS, DeskTest
 
 from gicdesk.case_rows import case_of
 from gicdesk.doubt_lines import Line, greater_lines
 from gicdesk.doubts import doubts_of
+from gicdesk.findings import Finding
+from gicdesk.inputs import Input
 from gicdesk.latitudes import latitude_off
+from gicdesk.psse_raw import read_raw
 from gicdesk.seen import Seen, kilovolts_of, remarks_of
+from gicdesk.sources import read_sources
+from gicdesk.study_seen import seen_case
 from gicdesk.usual import Number
 
 SIZES = (12, 20, 30, 45, 60)  # stations of right networks, of which there are twenty
@@ -35,19 +40,29 @@ class DoubtsTest(DeskTest):
         for name, text in texts_of(tables).items():
             (folder / f"{name}.csv").write_text(text)
         self.out = self.folder / "case.toml"
-        *lines, last = self.done("case", folder, f"--out={self.out}", "--force").splitlines()
+        *lines, last = self.done("case", folder, f"--out={self.out}", "--sources", "--force").splitlines()
         self.assertEqual(last, f"{self.out} is made")
         self.assertIn("intervals are of this case", lines.pop())
         return [line.replace(f"{folder}/", "") for line in lines]
 
+    def seen_beside(self, tables: Tables) -> list[str]:
+        """The questions about the case as `study` has them with the tables of places and of sources."""
+        given = Input("case", "case.toml", self.out.read_bytes())
+        case, findings = case_of(given.name, given.data), list[Finding]()
+        names = [row.name for rows in case.lists.values() for row in rows]
+        sources = read_sources("sources", names, findings, (self.folder / "case.sources.csv").read_bytes())
+        places = {row["name"]: (float(row["latitude"]), float(row["longitude"])) for row in tables["substations"]}
+        self.assertEqual(findings, [])
+        return [doubt.text for doubt in doubts_of(seen_case(given, places, sources))]
+
 
 class Right(DoubtsTest):
     def test_no_question_about_twenty_right_networks(self) -> None:
-        """Neither of the tables nor of the case that is made of them."""
+        """Neither of the tables nor of the case that is made of them, alone and with its places and sources."""
         asked = {}
         for seed in range(20):
-            lines = self.told(right_tables(seed, SIZES[seed % len(SIZES)]))
-            asked[seed] = lines + seen_in(self.out.read_bytes())
+            tables = right_tables(seed, SIZES[seed % len(SIZES)])
+            asked[seed] = self.told(tables) + seen_in(self.out.read_bytes()) + self.seen_beside(tables)
         self.assertEqual({seed: lines for seed, lines in asked.items() if lines}, {})
 
     def test_no_question_about_the_examples(self) -> None:
@@ -179,6 +194,18 @@ class Planted(DoubtsTest):
             self.assertEqual(seen_in(self.out.read_bytes()), [])
 
 
+class Studies(DoubtsTest):
+    def test_zones_are_asked_about_by_the_table_of_sources(self) -> None:
+        """The case has another latitude and another beta, since alpha is by the formula."""
+        tables = right_tables(SEED, STATIONS)
+        latitude_off_by_two(tables)
+        beta_without_a_model(tables)
+        self.told(tables)
+        self.assertEqual(seen_in(self.out.read_bytes()), [])
+        asked = self.seen_beside(tables)
+        self.assertEqual([text.partition(":")[0] for text in asked], ["zone west", "zone east"])
+
+
 class Parts(unittest.TestCase):
     def test_remarks_of_rows(self) -> None:
         text = b"""[[transformer]]  # at the head
@@ -214,6 +241,45 @@ transformer = [
         (found,) = greater_lines([*lines, Line("AC", 345, 80, 80 * 0.0345), Line("other", 345, 80, 80 * 0.04)])
         self.assertEqual((found.names, found.kilovolts), (("AC",), 345))
         self.assertAlmostEqual(found.most, 0.15)
+
+
+class PowerFlow(DoubtsTest):
+    PAIR = TESTS / "pair"
+
+    def told_of(self, gic: str) -> list[str]:
+        """What is asked of the pair of the region with these resistances."""
+        given, out = self.file("net.gic", gic), self.folder / "case.toml"
+        words = (f"--zones={self.PAIR / 'zones.csv'}", f"--lines={self.PAIR / 'lines.csv'}", f"--out={out}", "--force")
+        lines = self.done("psse", self.PAIR / "region.raw", given, *words).splitlines()
+        return [line.rpartition("/")[2] for line in lines if line.endswith("?")]
+
+    def test_the_questions_of_a_power_flow(self) -> None:
+        """Of the region a device and a resistor, and that its resistances of lines are those of the power flow: a file of these
+        has no notes."""
+        gic = (self.PAIR / "region.gic").read_text()
+        self.assertEqual(
+            self.told_of(gic),
+            [
+                "net.gic: GP-G1 has a neutral resistor of 2.5 ohm, and few have more than 1 ohm: is it there, and in ohm?",
+                "net.gic: The neutral of KS-A1 is blocked: is a blocking device there, and in service?",
+                "region.raw: 38 of 38 lines have the resistance of the power flow (38 have no RBRN), which is mostly that for "
+                "alternating current and a warm line, 10 to 20 per cent too much: is that for direct current known?",
+            ],
+        )
+
+    def test_resistances_that_are_copied_or_of_their_own(self) -> None:
+        """The lines of the pair with an RBRN that is the power flow's resistance, and with one that is 12 per cent less."""
+        gic = (self.PAIR / "region.gic").read_text()
+        findings, notes = list[Finding](), list[Finding]()
+        raw = read_raw(str(self.PAIR / "region.raw"), findings, notes)
+        head, _, rest = gic.partition("BEGIN BRANCH DATA")
+        for factor, is_asked in (("1", True), ("0.88", False)):
+            rows = ""
+            for branch in raw.branches:
+                ohm = branch.resistance * raw.buses[branch.ends[0]].kilovolts ** 2 / raw.base_mva * Number(factor)
+                rows += f"{branch.ends[0]},{branch.ends[1]},'{branch.circuit}',{ohm:.6f},0,0,0,0\n"
+            told = self.told_of(f"{head}BEGIN BRANCH DATA{rest.partition(chr(10))[0]}\n{rows}{rest.partition(chr(10))[2]}")
+            self.assertEqual(any("38 have an RBRN equal to it" in line for line in told), is_asked, told)
 
 
 if __name__ == "__main__":

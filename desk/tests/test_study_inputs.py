@@ -161,6 +161,20 @@ class Devices(StudyTest):
             self.assertEqual([row["neutrals"] for row in csv.DictReader(file)], ["", "TB", "TA"])
 
 
+    def test_where_none_can_be_tried(self) -> None:
+        case = self.case.read_text().replace("high_resistance = 300000", 'high_resistance = 300000, neutral = "blocked"')
+        self.case.write_text(case.replace(', neutral = "blocked", neutral = 1800000', ', neutral = "blocked"'))
+        self.prints("screen", screen(BOTH, BOTH))
+        told = self.text_of("devices", self.page("--mitigate"))
+        self.assertIn("No devices were tried: no unit of it has a neutral that can have a blocking device.", told)
+
+    def test_a_case_of_toml_1_1(self) -> None:
+        """A table in braces over two lines is one of TOML 1.1 alone."""
+        self.case.write_text(self.case.read_text().replace("[{ name", "[{\n name", 1))
+        (line,) = self.refused(*self.words("--mitigate"))
+        self.assertIn("--mitigate: it needs the case, which is in TOML 1.1", line)
+
+
 class FromTables(DeskTest):
     def test_a_case_with_its_table_of_sources(self) -> None:
         folder = self.folder / "tables"

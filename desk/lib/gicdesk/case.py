@@ -30,6 +30,7 @@ from .seen import Seen, SeenZone
 from .sources import LISTS as WITH_SOURCE
 from .sources import Sources, ZoneInputs, read_source, sources_table, zone_inputs
 from .usual import GROUNDS, short, unusual, usual_at
+from .vectors import letters_of
 from .zone_scales import read_alpha, zone_of_row
 
 AUTO_COLUMNS = ("high_kv", "low_kv", "series_ohm", "common_ohm")
@@ -206,7 +207,7 @@ class Making:
         self.sources |= dict.fromkeys(names, read_source(at))
         for name in names:
             unit = Unit(at, name, self.tables, self.network.kilovolts, self.questions)
-            rows = unit.rows() if len(names) == 1 else [side_by_side(row, len(names)) for row in unit.rows()]
+            rows = [with_remarks(row, remarks_of_unit(at, len(names))) for row in unit.rows()]
             self.case.lists["transformer"] += rows
             self.row_of |= {row.name: at for row in rows}
             self.network.used.update(unit.buses)
@@ -229,7 +230,7 @@ class Making:
         """What is asked about the network; none of it keeps the case from being made."""
         rows = self.tables.rows
         notes = {name: at.text("note") for table in rows.values() for name, at in table.items()}
-        notes |= {row.name: row.note for row in self.case.lists["transformer"] if row.name not in notes}
+        notes |= {row.name: row.note for row in self.case.lists["transformer"]}
         stations: dict[str, str] = {}
         for name, at in self.row_of.items():
             bus = rows[BUSES].get(at.text("high"))
@@ -247,10 +248,15 @@ class Making:
         return Finding(places[0][0], doubt.text, places[0][1] if len(places) == 1 else None)
 
 
-def side_by_side(row: Row, many: int) -> Row:
-    """A row of several equal ones, with a remark that says so."""
-    words = f"one of {many} equal ones side by side"
-    return dataclasses.replace(row, note=f"{row.note}; {words}" if row.note else words)
+def remarks_of_unit(at: Record, many: int) -> list[str]:
+    """What else is said of a unit in the case, and answers a question: that it is one of several, and that its neutral isn't one."""
+    letters = letters_of(at.text("vector_group")) or []
+    remarks = [f"one of {many} equal ones side by side"] if many > 1 else []
+    return [*remarks, *(["its neutral is not earthed"] if letters[:1] == ["Y"] and "A" in letters else [])]
+
+
+def with_remarks(row: Row, remarks: list[str]) -> Row:
+    return dataclasses.replace(row, note="; ".join(filter(None, (row.note, *remarks))))
 
 
 @dataclasses.dataclass(frozen=True)

@@ -433,7 +433,7 @@ class Making:
         places = {self.substation_names[number]: place for number, place in self.ways.places_of(self.substation_names).items()}
         of_zones = {zone: list(self.ways.places_of(sorted(stations)).values()) for zone, stations in self.ways.stations_of.items()}
         zones = list(psse_doubts.seen_zones(self.zones.zones, of_zones))
-        notes = psse_doubts.neutral_notes(self.case)
+        notes = {row.name: row.note for row in self.case.lists["transformer"]}
         return Seen(self.case, kilovolts, places, zones, notes, at_station=self.unit_at)
 
     def buses(self) -> None:

@@ -14,7 +14,6 @@ from .seen import Seen, SeenZone
 from .sources import DEFAULT, ESTIMATED, LISTS, Sources, sources_table, zone_inputs
 from .zone_scales import Zone
 
-NOT_GROUNDED = "its neutral is not grounded"  # the remark of a neutral that isn't one of a device
 LEAST_LINES, LEAST_PART = 5, decimal.Decimal("0.5")  # so many lines, and this part of all, have the power flow's resistance
 EQUAL = decimal.Decimal("0.005")  # the part by which resistances differ that are the same but for their digits
 
@@ -24,16 +23,6 @@ def seen_zones(zones: list[Zone], places: Mapping[str, list[Place]]) -> Iterator
         at = zone.at
         numbers = [float(at.number(column)) for column in ("geomagnetic_latitude", "beta")]
         yield SeenZone(zone.row.name, numbers[0], numbers[1], at.text("earth_model"), places.get(zone.row.name, []))
-
-
-def neutral_notes(case: Case) -> dict[str, str]:
-    """What answers the question about a blocked neutral: that the vector group has no grounded one."""
-    return {
-        row.name: field.comment
-        for row in case.lists["transformer"]
-        for field in row.fields
-        if field.key == "neutral" and field.comment == NOT_GROUNDED
-    }
 
 
 def alternating(raw: Raw, gic: Gic) -> str | None:

@@ -287,8 +287,9 @@ class Unit:
             return []
         fields = [Field("kind", "auto"), *self.side("high", high), *self.side("low", low)]
         fields += [self.resistance("series_resistance", high), self.resistance("common_resistance", low)]
+        note = self.note
         if high.letters == "Y":
-            neutral = [Field("neutral", "blocked", "its neutral is not grounded")]
+            neutral, note = [Field("neutral", "blocked", "its neutral is not grounded")], note or "its neutral is not grounded"
         else:
             neutral = self.neutral([high, low])
         others = [winding for winding in self.windings[1:] if winding is not low and winding.letters == GROUNDED]
@@ -297,7 +298,7 @@ class Unit:
             words = f"the neutral of {self.name} has a device or no ground, and a case joins that of its third winding"
             ways = f"make a resistor 0, and WR{low.name} greater by three times it, or leave the winding out by --beyond=leave"
             self.data_at.wrong(None, f"{words} to it; {ways}")
-        return [Row(self.name, [*(with_third(fields, third) if third else fields), *neutral], self.note)]
+        return [Row(self.name, [*(with_third(fields, third) if third else fields), *neutral], note)]
 
     def third(self, kind: str, windings: Sequence[Winding]) -> list[Field]:
         """A third grounded winding, where there is one and it is written."""

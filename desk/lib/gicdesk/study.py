@@ -209,6 +209,14 @@ class Within:
 
 
 @dataclasses.dataclass(frozen=True)
+class Devices:
+    """What a blocking device in each neutral in turn does; or why none can be tried."""
+
+    found: mitigate.Mitigation | None
+    fault: str = ""
+
+
+@dataclasses.dataclass(frozen=True)
 class Study:
     request: Request
     began: datetime.datetime
@@ -239,7 +247,7 @@ class Study:
     doubts: list[Doubt] = dataclasses.field(default_factory=list)  # what the desk asks beside the review
     sources: Sources | None = None
     within: Within | None = None
-    devices: mitigate.Mitigation | None = None
+    devices: Devices | None = None
 
     @functools.cached_property
     def case(self) -> dict[str, Any] | None:
@@ -392,6 +400,9 @@ def read_tables(request: Request, network: Network | None, items: Items) -> Tabl
     sources: Sources | None = None
     unread = "it needs the case, which is in TOML 1.1; write the case without what only TOML 1.1 has"
     with collected(findings):
+        if network is None and (request.tolerance is not None or request.has_devices):
+            raise refuse("--mitigate" if request.tolerance is None else f"--tolerance={request.tolerance}", unread)
+    with collected(findings):
         if request.events is not None:
             events = read_events(request.events, items, request.data("events"))
     with collected(findings):
@@ -511,11 +522,14 @@ def run_within(runs: Runs, screen: Screen) -> Within | None:
     return Within(tolerance, grounds.found_grounds(judge, screen, runs.last_report(Robust), runs.progress))
 
 
-def run_devices(runs: Runs) -> mitigate.Mitigation | None:
-    """What a blocking device in each neutral in turn does."""
+def run_devices(runs: Runs) -> Devices | None:
+    """What a blocking device in each neutral in turn does. That none can be tried is told, and the study goes on."""
     if not runs.request.has_devices:
         return None
-    return mitigate.tried_devices(runs.request.asked, mitigate.Device(), 0, runs.progress)
+    try:
+        return Devices(mitigate.tried_devices(runs.request.asked, mitigate.Device(), 0, runs.progress))
+    except Refused as refused:
+        return Devices(None, "; ".join(finding.words for finding in refused.findings))
 
 
 def run_losses(runs: Runs, factors: dict[str, Factor], screen: Screen, words: tuple[str, ...]) -> Losses | None:
@@ -635,42 +649,70 @@ def look_for_one_case(reports: Iterable[Screen | Outage | StormReport | None]) -
         raise refuse("the reports of gicstudy", "they are of several cases; is --program another program?")
 
 
-def make_study(request: Request) -> Study:
+@dataclasses.dataclass(frozen=True)
+class Found:
+    """What comes of all runs."""
+
+    basis: Basis
+    tables: Tables
+    storm: Storm | None
+    outage: Outage
+    flows: Flows
+    reactors: Reactors
+    losses: Losses | None
+    within: Within | None
+    events: Outages | None
+    units: list[UnitFacts]
+    gict: list[GicT]
+    gict_beyond: list[GicT]
+    devices: Devices | None
+
+
+def run_all(runs: Runs, inputs: Mapping[str, Input]) -> Found:
     """Runs all that is asked, in the order in which faults of the files come early."""
+    request, progress = runs.request, runs.progress
+    basis = look_at_case(runs, inputs["case"])
+    network, screen, supplemental = basis.network, basis.screen, basis.supplemental
+    tables = read_tables(request, network, basis.items)
+    base, waveform = request.asked.base, tables.waveform
+    expected = expect_runs(runs, basis, tables)
+    storm = run_storm(runs, request, inputs, network.zones if network is not None else ["*"])
+    outage = runs.report(Outage, "outage", "outage", *request.screen_words)
+    look_for_one_case((screen, supplemental, outage, None if storm is None else storm.report))
+    flows = run_flows(runs, screen, request.screen_words)
+    reactors = run_reactors(runs, inputs["case"], screen, request.screen_words)
+    losses = run_losses(runs, tables.factors, screen, request.screen_words)
+    within = run_within(runs, screen)
+    events, worst = outages_and_worst(runs, basis, base, tables.events, outage)
+    units = facts_of(screen, supplemental, outage, worst, events, storm)
+    progress.total -= expected
+    run_series(runs, storm, [unit.name for unit in units if wants_series(unit) or unit.name in tables.factors])
+    units = facts_of(screen, supplemental, outage, worst, events, storm)
+    subjects = [subject_of(unit, events) for unit in units if unit.is_assessed]
+    gict = run_gict(runs, waveform, screen, base, subjects)
+    beyond = [Subject(unit.supplemental, None, BEYOND) for unit in units if unit.supplemental.verdict in MUST]
+    gict_beyond = run_gict(runs, waveform, supplemental, base, beyond)
+    devices = run_devices(runs)
+    return Found(basis, tables, storm, outage, flows, reactors, losses, within, events, units, gict, gict_beyond, devices)
+
+
+def make_study(request: Request) -> Study:
     began, commit = datetime.datetime.now().astimezone(), commit_of(request.program.checksum)
     inputs = request.copies.inputs
     if request.tolerance is not None:
         grounds.look_for_mode(request.program)
     with Progress(8 + (request.tolerance is not None)) as progress:
         runs = Runs(request, progress)
-        basis = look_at_case(runs, inputs["case"])
-        network, screen, supplemental = basis.network, basis.screen, basis.supplemental
-        tables = read_tables(request, network, basis.items)
-        base = request.asked.base
-        expected = expect_runs(runs, basis, tables)
-        storm = run_storm(runs, request, inputs, network.zones if network is not None else ["*"])
-        outage = runs.report(Outage, "outage", "outage", *request.screen_words)
-        look_for_one_case((screen, supplemental, outage, None if storm is None else storm.report))
-        flows = run_flows(runs, screen, request.screen_words)
-        reactors = run_reactors(runs, inputs["case"], screen, request.screen_words)
-        losses = run_losses(runs, tables.factors, screen, request.screen_words)
-        within = run_within(runs, screen)
-        events, worst = outages_and_worst(runs, basis, base, tables.events, outage)
-        units = facts_of(screen, supplemental, outage, worst, events, storm)
-        progress.total -= expected
-        run_series(runs, storm, [unit.name for unit in units if wants_series(unit) or unit.name in tables.factors])
-        units = facts_of(screen, supplemental, outage, worst, events, storm)
-        subjects = [subject_of(unit, events) for unit in units if unit.is_assessed]
-        gict = run_gict(runs, tables.waveform, screen, base, subjects)
-        beyond = [Subject(unit.supplemental, None, BEYOND) for unit in units if unit.supplemental.verdict in MUST]
-        gict_beyond = run_gict(runs, tables.waveform, supplemental, base, beyond)
-        devices = run_devices(runs)
+        found = run_all(runs, inputs)
     request.program.look_for_change()
-    doubts = [] if network is None else doubts_of(seen_case(inputs["case"], tables.places, tables.sources))
+    return study_of(runs, found, began, commit)
+
+
+def study_of(runs: Runs, found: Found, began: datetime.datetime, commit: str | None) -> Study:
+    request, basis, tables = runs.request, found.basis, found.tables
+    inputs, network = request.copies.inputs, basis.network
     places, parts = ({}, 0) if network is None else laid_out(network, in_metres(tables.places))
-    spans = None
-    if network is not None and tables.places:
-        spans = compared(network.links, tables.places, basis.review.questions)
+    spans = compared(network.links, tables.places, basis.review.questions) if network is not None and tables.places else None
     return Study(
         request=request,
         began=began,
@@ -681,27 +723,27 @@ def make_study(request: Request) -> Study:
         kept=runs.kept,
         review=basis.review,
         check=basis.check,
-        screen=screen,
-        supplemental=supplemental,
-        outage=outage,
-        units=units,
-        events=events,
+        screen=basis.screen,
+        supplemental=basis.supplemental,
+        outage=found.outage,
+        units=found.units,
+        events=found.events,
         network=network,
         places=places,
         placed=len(tables.places),
         parts=parts,
-        storm=storm,
-        losses=losses,
-        flows=flows,
+        storm=found.storm,
+        losses=found.losses,
+        flows=found.flows,
         waveform=tables.waveform,
-        gict=gict,
-        gict_beyond=gict_beyond,
+        gict=found.gict,
+        gict_beyond=found.gict_beyond,
         compared=spans,
-        reactors=reactors,
-        doubts=doubts,
+        reactors=found.reactors,
+        doubts=[] if network is None else doubts_of(seen_case(inputs["case"], tables.places, tables.sources)),
         sources=tables.sources,
-        within=within,
-        devices=devices,
+        within=found.within,
+        devices=found.devices,
     )
 
 

@@ -206,8 +206,8 @@ def files_of(study: Study, comma: bool, has_workbook: bool = False) -> dict[str,
     files |= gict_files(study, comma)
     if study.within is not None and study.within.found is not None:
         files |= {f"grounds/{name}": text for name, text in grounds.files_of(study.within.found, comma).items()}
-    if study.devices is not None:
-        files |= {f"mitigate/{name}": text for name, text in mitigate.files_of(study.devices, comma).items()}
+    if study.devices is not None and study.devices.found is not None:
+        files |= {f"mitigate/{name}": text for name, text in mitigate.files_of(study.devices.found, comma).items()}
     sums = checksums_text(files)
     return files | {earlier.SUMS: sums, earlier.MARKER: earlier.marker_text(sums.encode())}
 

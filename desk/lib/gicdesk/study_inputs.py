@@ -128,7 +128,7 @@ def zones_table(case: Case, sources: Sources | None) -> Markup:
         zone_cells(zone) if sources is None or zone.name not in sources.zones else given_cells(zone.name, sources)
         for zone in case.lists["zone"]
     ]
-    return table(ZONE_HEADS, rows, ("name", "n", "n", "", "n", "n", ""))
+    return table(ZONE_HEADS, rows, ("name", "n", "n", "one", "n", "n", "one"))
 
 
 def counted_rows(case: Case, list_name: str) -> list[str]:
@@ -179,7 +179,7 @@ def source_pieces(study: Study, case: Case, sources: Sources) -> list[Markup]:
     rows = [rest_cells(unit, rests[unit.name]) for unit in study.applicable if unit.name in rests and rests[unit.name].is_assumed]
     pieces = [tag("h3", "Where the resistances come from"), counts_table(case, sources), tag("p", rest_words(study, rests))]
     if rows:
-        pieces.append(table(REST_HEADS, rows, ("name", "", "n", "", "", "", ""), class_="keeps"))
+        pieces.append(table(REST_HEADS, rows, ("name", "", "n", "one", "one", "one", "one"), class_="keeps"))
     return [*pieces, made(NOTE_REST)]
 
 

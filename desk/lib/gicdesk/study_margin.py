@@ -100,9 +100,11 @@ def device_words(found: Mitigation) -> str:
 
 
 def devices_section(study: Study) -> Markup:
-    found = study.devices
-    if found is None:
+    if study.devices is None:
         return section("devices", tag("p", "No devices were tried: --mitigate tries a blocking device in each neutral."))
+    found = study.devices.found
+    if found is None:
+        return section("devices", tag("p", f"No devices were tried: {study.devices.fault}."))
     rows: Sequence[Sequence[str]] = [measure_cells(measure) for measure in found.single[:SHOWN]]
     more = len(found.single) - SHOWN
     pieces = [tag("p", f"{plural(more, 'row')} more in mitigate/ranking.csv.")] if more > 0 else []
