@@ -135,7 +135,7 @@ def questions_section(study: Study) -> Markup:
         return section("questions", tag("p", words), *compared)
     words = f"The review has {plural(len(questions), 'finding')}. Each is a question, and no fault: write down the answer."
     if study.compared is not None or study.doubts:
-        words = f"{plural(len(questions), 'question')}, and no fault any of them: write down the answer."
+        words = f"{plural(len(questions), 'question')}, and none is a fault: write down the answer."
     room = [tag("span", class_="write")] if len(questions) <= MOST_WITH_ROOM else []
     items = [tag("li", question, *room, id=f"q{number}") for number, question in enumerate(questions, 1)]
     return section("questions", tag("p", words), tag("ol", *items), *compared)

@@ -38,7 +38,6 @@ table.units { font-size: .8rem; }
 .keeps td:first-child, .keeps th:first-child { position: sticky; left: 0; z-index: 1; }
 .keeps tbody tr:nth-child(odd) td:first-child { background: #fff; }
 .keeps td:first-child { box-shadow: inset 0 -1px 0 var(--rule); }
-.keeps th:first-child { box-shadow: inset 0 -1.5px 0 var(--ink); }
 .one { white-space: nowrap; }
 .v { white-space: nowrap; }
 .reaches { color: var(--red); font-weight: 600; }
