@@ -42,7 +42,7 @@ class DoubtsTest(DeskTest):
         self.out = self.folder / "case.toml"
         *lines, last = self.done("case", folder, f"--out={self.out}", "--sources", "--force").splitlines()
         self.assertEqual(last, f"{self.out} is made")
-        self.assertIn("intervals are of this case", lines.pop())
+        self.assertIn("intervals hold for this case", lines.pop())
         return [line.replace(f"{folder}/", "") for line in lines]
 
     def seen_beside(self, tables: Tables) -> list[str]:

@@ -117,7 +117,7 @@ class OnThePage(StudyTest):
         page = self.page()
         self.assertIn('<li id="q1">B has no ground', page)
         self.assertIn('<b>TA <a href="#q1">?</a></b>', page)
-        self.assertIn("A ? is at each unit that an open question can change.", page)
+        self.assertIn("A ? marks each unit that an open question can change.", page)
         self.assertEqual({name: row["open_questions"] for name, row in self.units().items()}, {"TA": "1", "TB": "1", "D": ""})
 
     def test_a_unit_below_is_told_on_the_terminal(self) -> None:

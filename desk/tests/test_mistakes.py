@@ -612,7 +612,7 @@ class Case(DeskTest):
             self.file(f"{name}.csv", text)
         status, out, err = desk("case", self.folder, f"--out={self.folder / 'case.toml'}", "--force", "--alpha=table")
         lines = plain(out + err, f"{self.folder}/")
-        return status, [line for line in lines if "intervals are of this case" not in line]  # (that of its rounding)
+        return status, [line for line in lines if "intervals hold for this case" not in line]  # (that of its rounding)
 
     def test_mistakes_in_tables(self) -> None:
         self.assertEqual(self.run_case(TABLES), (0, ["case.toml is made"]))

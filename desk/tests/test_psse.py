@@ -231,7 +231,7 @@ class Small(PsseTest):
     def test_what_is_told(self) -> None:
         self.case([*self.words(), "--beyond=leave"])
         names = [line.replace(f"{self.folder}/", "") for line in self.shown]
-        self.assertIn("case.toml: the program's intervals are of this case, whose spans, alpha and beta are rounded; ", names.pop(-2))
+        self.assertIn("case.toml: the program's intervals hold for this case; the rounding of spans, alpha and beta changes ", names.pop(-2))
         self.assertEqual(
             names,
             [

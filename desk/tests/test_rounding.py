@@ -27,7 +27,7 @@ class OfTables(CaseTest):
             changes[name] = 8 * scale * off / 1000, off / math.hypot(*exact)
         name = max(changes, key=lambda one: changes[one][0])
         volts, part = changes[name]
-        words = f"by up to {short(volts)} V at 8 V/km, that of {name}, which is {short(100 * part)} per cent"
+        words = f"by up to {short(volts)} V at 8 V/km ({name}, {short(100 * part)} per cent)"
         self.assertTrue(self.rounding.endswith(words), (self.rounding, words))
 
     def test_alpha_by_the_formula(self) -> None:
@@ -47,14 +47,14 @@ class OfTables(CaseTest):
         for before, after in (("3.25,,", "3.25,-111.0,0"), ("8.9,,", "8.9,-111.0,0")):
             self.change("lines", before, after)
         self.made()
-        self.assertTrue(self.rounding.endswith("are rounded; that changes no voltage of a line"), self.rounding)
+        self.assertTrue(self.rounding.endswith("changes no voltage of a line"), self.rounding)
 
 
 class OfAPowerFlow(PsseTest):
     def test_the_greatest_change_of_a_voltage(self) -> None:
         """Of the line from 50 N 100 W to 49 N 100 W, or of that to 50 N 99 W."""
         self.case([*self.words(), "--beyond=leave"])
-        told = next(line for line in self.shown if "intervals are of this case" in line)
+        told = next(line for line in self.shown if "intervals hold for this case" in line)
         self.assertEqual(self.shown.index(told), len(self.shown) - 2)
         places = {"L1-4-1": ((50.0, -100.0), (49.0, -100.0)), "L1-7-1": ((50.0, -100.0), (50.0, -99.0))}
         self.assertIn("60,0.81", ZONES)
@@ -63,17 +63,17 @@ class OfAPowerFlow(PsseTest):
             off = math.hypot(*(metres - round(metres) for metres in degrees_between(*ends)))
             changes[name] = 8 * 0.81 * off / 1000
         name = max(changes, key=lambda one: changes[one])
-        self.assertIn(f"by up to {short(changes[name])} V at 8 V/km, that of {name}", told)
+        self.assertIn(f"by up to {short(changes[name])} V at 8 V/km ({name}, ", told)
 
 
 class Numbers(unittest.TestCase):
     def test_the_worst_line_is_kept(self) -> None:
         found = Rounding()
         found.add("a", (10.0, 0.0), (10.0, 0.0))
-        self.assertTrue(found.text.endswith("that changes no voltage of a line"))
+        self.assertTrue(found.text.endswith("changes no voltage of a line"))
         found.add("b", (10.0, 0.0), (10.003, 0.004))
         found.add("c", (90.0, 0.0), (90.001, 0.0))
-        self.assertTrue(found.text.endswith("by up to 0.040 V at 8 V/km, that of b, which is 0.050 per cent"), found.text)
+        self.assertTrue(found.text.endswith("by up to 0.040 V at 8 V/km (b, 0.050 per cent)"), found.text)
 
     def test_a_metre_each_way(self) -> None:
         """Of a zone with alpha and beta 1, at 8 V/km."""

@@ -114,9 +114,8 @@ def data_of(
     at = [
         (bus, places[bus["substation"]]) for bus in case.get("bus", []) if bus["name"] in index and bus["substation"] in places
     ]
-    where: list[Row] = [
-        {"name": bus["name"], "parent_index": numbers.get(bus["name"], NONE), "lat": lat, "lon": lon} for bus, (lat, lon) in at
-    ]
+    named = [(bus["name"], place) for bus, place in at]
+    where: list[Row] = [{"name": name, "parent_index": numbers.get(name, NONE), "lat": lat, "lon": lon} for name, (lat, lon) in named]
     return Data(indexed(nodes), indexed(rows), indexed(units), indexed(where), field)
 
 

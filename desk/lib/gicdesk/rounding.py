@@ -14,7 +14,7 @@ from .parts import Piece
 
 FIELD = 8.0  # V/km, of the benchmark event
 Pair = tuple[float, float]  # volts in 1 V/km to the north and to the east
-HOLDS = "the program's intervals are of this case, whose spans, alpha and beta are rounded"
+HOLDS = "the program's intervals hold for this case; the rounding of spans, alpha and beta"
 METRE = 1.0  # a span of coordinates is rounded to whole ones, and so is that times the factor of its zone
 
 
@@ -69,9 +69,9 @@ class Rounding:
     def text(self) -> str:
         """What is said of it where the case is made."""
         if self.volts < 1e-9:
-            return f"{HOLDS}; that changes no voltage of a line"
-        most = f"by up to {short(self.volts)} V at {FIELD:g} V/km, that of {self.name}, which is {short(100 * self.part)} per cent"
-        return f"{HOLDS}; that changes the voltage of a line {most}"
+            return f"{HOLDS} changes no voltage of a line"
+        line = f"{self.name}, {short(100 * self.part)} per cent"
+        return f"{HOLDS} changes the voltage of a line by up to {short(self.volts)} V at {FIELD:g} V/km ({line})"
 
 
 def short(number: float) -> str:

@@ -11,8 +11,8 @@ MARK = "?"
 MOST = 3  # numbers of questions in a cell
 MOST_NAMES = 40
 NOTE = (
-    " Behind ? stand the numbers of the open questions that can change what is said of a unit: those about its part of the network, "
-    "or about something within three lines of it."
+    " The column ? lists the open questions that can change what the page says of a unit: questions about its part of the network, or "
+    "about something within three lines of it."
 )
 Marks = Mapping[str, list[int]]
 
@@ -66,7 +66,7 @@ def marks_note(units: Sequence[Facts], marks: Marks) -> list[Markup]:
     if not marks:
         return []
     below = below_text(units, marks)
-    words = f"A {MARK} is at each unit that an open question can change." + (f" {below}." if below else "")
+    words = f"A {MARK} marks each unit that an open question can change." + (f" {below}." if below else "")
     return [tag("p", words)]
 
 

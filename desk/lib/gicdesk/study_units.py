@@ -48,8 +48,8 @@ STORM_NOTE = (
     "second."
 )
 REACTOR_NOTE = (
-    " A shunt reactor has no current of a unit: beside its – stands the greatest current of its winding, of the three phases together "
-    "(a third of it is that of a phase), made by the desk of the currents in the event's field to the north and to the east."
+    " A shunt reactor has no current of a unit. Its row shows – and the greatest current of its winding, of the three phases together "
+    "(a third of that is the current of a phase). The desk makes it of the currents in the event's field to the north and to the east."
 )
 ROSE_NOTE = (
     "All roses have one scale: the outer circle is {scale} A, and the dashed one {threshold} A. How far a curve is from "
