@@ -4,7 +4,7 @@ TABLES = {
     "zones": """\
 name,geomagnetic_latitude,beta,note
 upland,57.30,0.85,
-coast,55.40,0.79,on sediments
+coast,55.60,0.79,on sediments
 """,
     "substations": """\
 name,latitude,longitude,ground_ohm,note
@@ -31,7 +31,7 @@ low,N138,S138,coast,8.9,,,,
 name,kind,high,low,high_kv,low_kv,high_ohm,low_ohm,series_ohm,common_ohm,neutral,vector_group,third,third_kv,third_ohm,note
 T1,auto,N345,N138,345,138,,,0.24,0.19,,YNa0d1,,,,
 T2,wye-wye,S345,S138,345,138,0.42,0.07,,,,YNyn0,,,,
-T3,delta-wye,S345,,362,,0.23,,,,2.5,YNd1,,,,
+T3,delta-wye,S345,,362,,0.23,,,,2.5,YNd1,,,,a resistor
 T4,delta-delta,S138,,138,,,,,,,Dyn11,,,,a load
 """,
 }

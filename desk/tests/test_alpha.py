@@ -149,7 +149,7 @@ class Default(CaseTest):
 class Parts(CaseTest):
     def test_a_line_in_parts_has_the_currents_of_the_whole_one(self) -> None:
         """Where both zones have the same alpha and beta, a line in two parts carries what it did in one zone."""
-        self.change("zones", "55.40,0.79", "57.30,0.85")
+        self.change("zones", "55.60,0.79", "57.30,0.85")
         self.change("lines", "upland,3.25", ",3.25")
         self.change("lines", ",3.25,,", ",3.25,-110.5,9.3")
         self.texts["polygons"] = POLYGONS

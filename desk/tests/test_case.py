@@ -49,6 +49,8 @@ class CaseTest(DeskTest):
         """The lists of the case that is made, each row by its name; what is told is kept without the folder."""
         told = self.done(*self.words("--force", *words)).replace(f"{self.folder}/", "").splitlines()
         self.assertEqual(told.pop(), "case.toml is made")
+        self.rounding = told.pop()
+        self.assertIn("case.toml: the program's intervals hold for this case", self.rounding)
         self.told = [line.removeprefix("tables/") for line in told]
         read = tomllib.loads(self.out.read_text())
         return {name: {row["name"]: row for row in read[name]} for name in LISTS}
@@ -63,7 +65,9 @@ class CaseTest(DeskTest):
 class Region(DeskTest):
     def test_the_region_byte_for_byte_without_a_finding(self) -> None:
         out = self.folder / "region.toml"
-        self.assertEqual(self.done("case", EXAMPLES / "tables", "--alpha=table", f"--out={out}"), f"{out} is made\n")
+        rounding, made = self.done("case", EXAMPLES / "tables", "--alpha=table", f"--out={out}").splitlines()
+        self.assertTrue(rounding.startswith(f"{out}: the program's intervals hold for this case"), rounding)
+        self.assertEqual(made, f"{out} is made")
         self.assertEqual(out.read_bytes(), (EXAMPLES / "region.toml").read_bytes())
 
     def test_tables_as_a_spreadsheet_of_decimal_commas_writes_them(self) -> None:

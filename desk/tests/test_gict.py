@@ -16,6 +16,7 @@ from test_outages import BOTH, HEADS, NONE, ONE, screen
 from test_study import SERIES, WAVE, StudyTest
 
 from gicdesk import charts, gict, waveforms
+from gicdesk.directions import bearing_of
 from gicdesk.events import BaseSwitchings, Event, Switching
 from gicdesk.findings import Refused
 from gicdesk.forms import Interval
@@ -81,11 +82,24 @@ class Switchings(unittest.TestCase):
         self.assertEqual(gict.switchings_of(base, None), rows)
         self.assertIsNone(gict.switchings_of(BaseSwitchings(), None))
 
-    def test_the_direction_in_which_the_current_is_positive(self) -> None:
-        for north, east, bearing in ((100, 0, 0), (0, 100, 90), (-100, 0, 180), (-100, -100, 225), (1000, -1, 0)):
+    def test_the_bearing_is_that_of_the_table_of_units(self) -> None:
+        """The lesser of the two ways, to which the waveform is turned too."""
+        for north, east, bearing in (
+            (100, 0, 0),
+            (0, 100, 90),
+            (0, -100, 90),
+            (-100, 0, 0),
+            (-100, -100, 45),
+            (59, -81, 126),
+            (-59, 81, 126),
+            (1000, -1, 0),
+            (-1000, 1, 0),
+        ):
             to_north, to_east = (Interval(1000 * part, 1000 * part + 1) for part in (north, east))
-            unit = ScreenUnit("T", to_north, to_east, Interval(0, 1), "reaches")
-            self.assertEqual(gict.Subject(unit, None).bearing, bearing)
+            unit = ScreenUnit("T", to_north, to_east, Interval(1, 2), "reaches")
+            subject = gict.Subject(unit, None)
+            self.assertEqual((subject.bearing, bearing_of(unit)), (bearing, bearing))
+            self.assertAlmostEqual(math.cos(cmath.phase(subject.toward) - math.radians(bearing)), 1, 3)
 
 
 class Study(StudyTest):
@@ -132,7 +146,7 @@ class Study(StudyTest):
         self.assertEqual(root.tag, f"{SVG}svg")
         self.assertEqual(len(list(root.iter(f"{SVG}polyline"))), 2)
         self.assertIsNotNone(root.find(f"{SVG}style"))
-        words = "GIC(t) of TA in the network as it stands, A a phase: turned to 45°, to -98.767 A at 60 s"
+        words = "GIC(t) of TA in the network as it stands, A a phase: turned to 45° (either way), to -98.767 A at 60 s"
         colours = "blue: turned, orange: as given, dashed: 75.000 A"
         self.assertEqual(root.findtext(f"{SVG}text"), f"{words} ({colours})")
 
@@ -168,8 +182,32 @@ class Study(StudyTest):
             self.prints(f"screen+{item}", screen(below, below))
         head = test_outages.OUTAGE.partition("transformer")[0]
         self.prints("outage", f"{head}transformer TA worst {below}\ntransformer TB worst {below}\ntransformer D none\nend\n")
-        self.assertIn("No unit is assessed", self.text_of("gict", self.page(self.wave)))
+        told = self.text_of("gict", self.page(self.wave))
+        self.assertIn("No unit is assessed by the benchmark event", told)
+        self.assertEqual([path.name for path in (self.out / "gict").iterdir()], ["supplemental"])
+        self.out = self.folder / "neither"
+        self.prints("screen-supplemental", screen(below, below))
+        self.assertIn("No unit is assessed, so", self.text_of("gict", self.page(self.wave)))
         self.assertFalse((self.out / "gict").exists())
+
+    def test_the_supplemental_event(self) -> None:
+        """TA alone reaches its threshold there: the waveform is scaled to its field, as a part of its own."""
+        other = screen("120000 120002 reaches", "84000 84002 below")
+        self.prints("screen-supplemental", other.replace("75000 field 8000", "85000 field 12000"))
+        told = self.text_of("gict", self.page(self.wave))
+        self.assertIn("Supplemental event, for units with 85.000 A or more in the network as it stands, or perhaps", told)
+        self.assertIn("It is scaled to 12.000 V/km there.", told)
+        folder = self.out / "gict" / "supplemental"
+        made = {path.name for path in folder.iterdir()}
+        kinds = {"given_TA.txt", "turned_TA.txt", "turned_field_TA.csv", "table_TA.csv", "picture_TA.svg"}
+        self.assertEqual(made, kinds | {"given_field.csv", "summary.csv"})
+        # The strongest step of the waveform is 5 mV/km or V/km, 3 to the north and 4 to the east: scaled to 12 V/km.
+        self.assertIn("60,7200,9600", (folder / "given_field.csv").read_text())
+        with open(folder / "summary.csv", newline="") as file:
+            (row,) = csv.DictReader(file)
+        self.assertEqual((row["transformer"], row["worst_high_A_per_phase"], row["out"]), ("TA", "120.002", ""))
+        words = "--storm=gict/supplemental/turned_field_TA.csv --transformer=TA"
+        self.assertIn(f"0 supplemental_turned_TA gicstudy series --case={self.case} {words}", (self.out / "commands.txt").read_text())
 
     def test_a_series_of_other_steps_is_refused(self) -> None:
         for other in (SERIES.replace("time 60", "time 61"), SERIES.replace("120 74999 75001", f"120 0 {10**30}")):

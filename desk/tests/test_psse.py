@@ -231,6 +231,7 @@ class Small(PsseTest):
     def test_what_is_told(self) -> None:
         self.case([*self.words(), "--beyond=leave"])
         names = [line.replace(f"{self.folder}/", "") for line in self.shown]
+        self.assertIn("case.toml: the program's intervals hold for this case; the rounding of spans, alpha and beta changes ", names.pop(-2))
         self.assertEqual(
             names,
             [
@@ -247,7 +248,10 @@ class Small(PsseTest):
                 "net.gic line 18: the reactor 7 '1' is left out",
                 "net.gic line 19: the reactor 7 '2' is out of service: it is left out",
                 "net.raw: 3 of 8 buses have no line and no grounded winding: they are left out",
-                "net.gic: 2 of 2 units have a KFACTOR, or a CORE with a published factor: --factors writes a table of them for "
+                "zones.csv: zone all: the geomagnetic latitude is 60 degrees, 2.0 off the 57.0 to 58.0 of its stations as seen "
+                "from the pole of the earth's dipole: is it that of this region and of this year?",
+                "net.gic: T4-6-1 has a neutral resistor of 2.5 ohm, and few have more than 1 ohm: is it there, and in ohm?",
+                "net.gic: 2 of 2 units have a KFACTOR, or a CORE with a factor: --factors writes a table of them for "
                 "the losses of study",
                 "case.toml is made, and case.names.csv says what its names stand for",
             ],
@@ -340,13 +344,6 @@ class Small(PsseTest):
         lines = self.refused(*self.words(gic=gic), "--beyond=leave", "--force")
         self.assertIn("can be read in two ways", lines[0])
 
-    def test_a_unit_between_two_buses_of_one_voltage_is_told(self) -> None:
-        raw = RAW.replace("6,'SOUTH LV ',138.0,1", "6,'SOUTH LV ',345.0,1")
-        self.case([*self.words(raw), "--beyond=leave"])
-        self.assertIn("joins two buses of one voltage: if it is a phase shifter", "".join(self.shown))
-        self.case([*self.words(), "--beyond=leave", "--force"])
-        self.assertNotIn("two buses of one voltage", "".join(self.shown))
-
     def test_a_status_that_is_none(self) -> None:
         for name, status, is_taken in (("BANK", 4, True), ("BANK", 5, False), ("SPARE", 2, False)):
             old = 0 if name == "SPARE" else 1
@@ -416,7 +413,7 @@ class Groups(PsseTest):
             ("0.3,0.1,0.0,0,0,0,'YNy0',1,0.6,0.0", delta_wye | high),
             ("0.3,0.1,0.0,0,0,0,'Dyn11',1,0.6,0.0", delta_wye | own_low),
             ("0.3,0.1,0.0,1,0,0,'YNyn0',1,0.6,0.0", delta_wye | own_low),
-            ("0.3,0.1,0.0,1,1,0,'YNyn0',1,0.6,0.0", listed),
+            ("0.3,0.1,0.0,1,1,0,'YNyn0',1,0.6,0.0", {"name": "T4-6-1", "kind": "wye-wye"} | high | low | {"neutral": "blocked"}),
             ("0.3,0.1,0.0,0,0,0,'YNa0d1',1,0.6,0.0", auto),
             ("0.3,0.1,0.0,0,1,0,'YNa0',1,0.6,0.0", auto | {"neutral": "blocked"}),
             ("0.3,0.1,0.0,0,0,0,'Ya0',1,0.6,0.0", auto | {"neutral": "blocked"}),
@@ -887,7 +884,7 @@ class Meant(PsseTest):
     def test_factors_for_losses(self) -> None:
         gic = GIC.replace("'YNd1',1,0.6", "'YNd1',3,0.0")
         told = self.told_of([*self.words(gic=gic), "--beyond=leave", "--factors"])
-        words = "2 of 2 units have a KFACTOR, or a CORE with a published factor: they stand in the table of factors"
+        words = "2 of 2 units have a KFACTOR, or a CORE with a factor: they stand in the table of factors"
         self.assertIn(f"net.gic: {words}", told)
         table = self.out.with_suffix(".factors.csv").read_text()
         origin = "KFACTOR of the .gic, taken for the unit's own voltage"
@@ -905,7 +902,7 @@ class Meant(PsseTest):
             made.unlink()
         self.told(
             [*self.words(gic=none), "--beyond=leave", "--factors"],
-            "net.gic: no unit has a KFACTOR above 0 or a CORE of 1, 3, 5; leave out --factors",
+            "net.gic: no unit has a KFACTOR above 0 or a CORE of -1, 1, 3, 5, 7; leave out --factors, or give --core-factors",
         )
 
     STATIONS = (

@@ -5,7 +5,8 @@ import re
 import subprocess
 import unittest
 
-from shared import BUILT, DeskTest
+import test_outages
+from shared import BUILT, FAKE, DeskTest
 
 from gicdesk.network import Link, network_of, read_degrees
 from gicdesk.places import degrees_between
@@ -127,3 +128,52 @@ class OverTheProgram(SpansTest):
         self.assertTrue(others)
         for line in others:
             self.assertTrue(line.endswith("Of its spans LS12-S13 doesn't fit the coordinates."), line)
+
+
+@unittest.skipUnless(BUILT.is_file(), "no program is built")
+class ReviewOverTheProgram(SpansTest):
+    def lines(self, *words: object) -> list[str]:
+        return self.done("review", self.case, f"--program={BUILT}", *words).splitlines()
+
+    def test_the_questions_are_those_of_a_study(self) -> None:
+        """Without places those of the review, with places none of a loop that they explain."""
+        without, with_places = self.lines(), self.lines(f"--places={self.places}")
+        self.assertGreater(len(without), 2)
+        self.assertEqual(without[-1], f"{len(without) - 1} questions")
+        self.assertTrue(all(line.startswith("question: The loop that ") for line in without[:-1]), without)
+        self.assertEqual(with_places[-1], "0 questions")
+        self.assertTrue(with_places[0].startswith("note: 50 spans of lines were compared with the coordinates of --places"))
+        self.turn("LS12-S13")
+        first = self.lines(f"--places={self.places}")[0]
+        self.assertTrue(first.startswith("question: The span of LS12-S13, from S12 to S13, is 0.0 km"), first)
+
+
+class ReviewWords(test_outages.OutagesTest):
+    def test_places_of_another_case_and_parts_of_low_voltages(self) -> None:
+        """Over the program that stands for the real one."""
+        case = self.file("case.toml", LOW)
+        self.prints("review", "review\npart 3 A\npart 3 B\npart 6 C\nfindings 3\nend\n")
+        shown = self.done("review", case, f"--program={FAKE}").splitlines()
+        self.assertEqual(len(shown), 3)
+        self.assertIn("2 parts of the network have no line, and in them 2 units of voltages below 60 kV, TA and TB", shown[1])
+        places = self.file("places.csv", "name,latitude,longitude\nX,50,10\n")
+        (line,) = self.refused("review", case, f"--program={FAKE}", f"--places={places}")
+        self.assertIn("it has none of the case's substations; is it the table of another case?", line)
+
+
+LOW = """\
+format = 2
+zone = [{ name = "Z", latitude = 6000, beta = 100 }]
+substation = [{ name = "A", ground = 1000000 }, { name = "B", ground = 1000000 }, { name = "C", ground = 1000000 }, { name = "D" }]
+bus = [
+  { name = "a1", substation = "A" }, { name = "a2", substation = "A" }, { name = "b1", substation = "B" },
+  { name = "b2", substation = "B" }, { name = "c1", substation = "C" }, { name = "d1", substation = "D" },
+]
+line = [{ name = "L", from = "c1", to = "d1", zone = "Z", resistance = 3000000, north = 100000, east = 0 }]
+transformer = [
+  { name = "TA", kind = "wye-wye", high_volts = 34500, low_volts = 13800, high = "a1", low = "a2", high_resistance = 300000, low_resistance = 90000 },
+  { name = "TB", kind = "wye-wye", high_volts = 34500, low_volts = 13800, high = "b1", low = "b2", high_resistance = 300000, low_resistance = 90000 },
+  { name = "TC", kind = "delta-wye", high_volts = 345000, high = "c1", high_resistance = 300000 },
+  { name = "TD", kind = "delta-wye", high_volts = 345000, high = "d1", high_resistance = 300000 },
+]
+"""

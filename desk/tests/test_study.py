@@ -44,7 +44,7 @@ line = [
   { name = "S", from = "a", to = "b", zone = "Z", resistance = 3000000, north = 100000, east = 0, blocked = true },
 ]
 transformer = [
-  { name = "TA", kind = "delta-wye", high_volts = 345000, high = "a", high_resistance = 300000, neutral = 1800000 },
+  { name = "TA", kind = "delta-wye", high_volts = 345000, high = "a", high_resistance = 300000, neutral = 1800000 },  # a resistor
   { name = "TB", kind = "delta-wye", high_volts = 500000, high = "b", high_resistance = 300000 },
   { name = "D", kind = "delta-delta", high_volts = 345000 },
 ]
@@ -206,8 +206,9 @@ class Folder(StudyTest):
         wave = self.file("wave.csv", WAVE)
         with mock.patch.object(study, "Progress", progress):
             self.page(f"--storm={storm}", f"--events={given}", f"--factors={drawn}", f"--waveform={wave}")
-        # Eight reports of the case, study, an event, field, three single items, two series, and four over the waveform.
-        self.assertEqual([(one.done, one.total) for one in made], [(20, 20)])
+        # Eight reports of the case, study, an event, field, three single items, two series, four over the waveform, and two of the
+        # unit that reaches the threshold of the supplemental event.
+        self.assertEqual([(one.done, one.total) for one in made], [(22, 22)])
 
     def test_decimal_commas(self) -> None:
         drawn = self.file("factors.csv", "transformer,mvar_per_ampere,at_kv\nTB,1.2,\n")
@@ -277,7 +278,7 @@ class Page(StudyTest):
         # The verdicts of TA and TB in the whole network, of TB in the outages and in the event, and the answer.
         below, perhaps = "60000 60002 below", "74999 75001 undecided"
         whole, out, listed = "by the event", "more with one item out", "more in an event of the list"
-        none, one, two = (f"{number} of 3 units must be assessed by the benchmark event" for number in ("None", 1, 2))
+        none, one, two = (f"{number} of 2 applicable units must be assessed by the benchmark event" for number in ("None", 1, 2))
         more = "1 more by the supplemental event alone: TA"  # which has 120 A in it
         given = self.file("events.csv", f"{HEADS}both,K,open\nboth,L,open\n")
         for number, (first, second, without, event, answer) in enumerate(

@@ -42,6 +42,9 @@ class Scale:
     factor: Fraction = Fraction(1)
 
 
+NO_SCALE = Scale(9000, 100)  # of a zone that isn't there, a finding
+
+
 def nearest_scale(latitude: int, product: Fraction) -> Scale:
     """The scale at this latitude whose factor is the nearest to 1."""
     alpha = by_table(latitude)

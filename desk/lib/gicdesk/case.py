@@ -19,12 +19,18 @@ from .case_tables import (
 from .case_lines import Line, Network
 from .case_units import Unit
 from .cases import LISTS, Case, Field, Names, Row, short_enough
+from .doubts import Doubt, doubts_of
 from .findings import Finding, Refused, shown
 from .forms import NAME
 from .latitudes import latitude_words
 from .quantities import GROUND_OHM, KILOVOLT, LATITUDE, LONGITUDE, OHM, TOLERANCE, Number, bare, number_in, whole
 from .records import Record
+from .rounding import Rounding
+from .seen import Seen, SeenZone
+from .sources import LISTS as WITH_SOURCE
+from .sources import Sources, ZoneInputs, read_source, sources_table, zone_inputs
 from .usual import GROUNDS, short, unusual, usual_at
+from .vectors import letters_of
 from .zone_scales import read_alpha, zone_of_row
 
 AUTO_COLUMNS = ("high_kv", "low_kv", "series_ohm", "common_ohm")
@@ -47,6 +53,10 @@ class Making:
         self.alpha = choices.alpha
         self.case, self.names = Case(), Names({name for rows in tables.rows.values() for name in rows})
         self.network = Network()
+        self.rounding = Rounding()
+        self.row_of: dict[str, Record] = {}  # of transformers, by their names in the case
+        self.zone_inputs: dict[str, ZoneInputs] = {}
+        self.sources: dict[str, str] = {}  # of substations, lines and transformers
 
     def make(self) -> None:
         for table, make in (
@@ -77,6 +87,7 @@ class Making:
         if made is not None:
             self.network.scales[made.row.name] = made.scale
             self.case.lists["zone"].append(made.row)
+            self.zone_inputs[made.row.name] = zone_inputs(made)
 
     def latitude(self, at: Record) -> None:
         """Asks where the latitude of a zone isn't the geomagnetic one of the stations that its lines join."""
@@ -106,6 +117,10 @@ class Making:
     # Substations and buses
 
     def place(self, at: Record) -> None:
+        if not (at.text("latitude") or at.text("longitude")):
+            self.network.unplaced.add(at.text("name"))
+            self.notes.append(at.finding(f"{at.text('name')} has no coordinates: the spans of its lines are those of the table"))
+            return
         latitude, longitude = number_in(at, "latitude", LATITUDE), number_in(at, "longitude", LONGITUDE)
         if latitude is not None and longitude is not None:
             self.network.places[at.text("name")] = (latitude, longitude)
@@ -124,6 +139,7 @@ class Making:
             words = "it is empty, and a winding is earthed here, so that no current can flow in it to the earth"
             self.questions.ask(f"ground:{name}", at, "ground_ohm", words, "write its resistance")
         fields += self.tolerance(at)
+        self.sources[name] = read_source(at)
         if name not in self.network.used:
             words, ways = "no bus is in it", "look at the column substation of the buses, or leave the row out"
             self.questions.ask(f"unused:{name}", at, None, words, ways)
@@ -178,24 +194,77 @@ class Making:
         return names
 
     def line(self, at: Record) -> None:
-        line = Line(at, self.copies(at), self.tables, self.network, self.questions)
+        names = self.copies(at)
+        line = Line(at, names, self.tables, self.network, self.questions, rounding=self.rounding)
+        self.sources |= dict.fromkeys(names, read_source(at))
         self.case.lists["line"] += line.rows()
         self.network.used.update(line.buses)
         for zone in line.zones:
             self.network.stations_of.setdefault(zone, set()).update(line.stations)
 
     def transformer(self, at: Record) -> None:
-        for name in self.copies(at):
+        names = self.copies(at)
+        self.sources |= dict.fromkeys(names, read_source(at))
+        for name in names:
             unit = Unit(at, name, self.tables, self.network.kilovolts, self.questions)
-            self.case.lists["transformer"] += unit.rows()
+            rows = [with_remarks(row, remarks_of_unit(at, len(names))) for row in unit.rows()]
+            self.case.lists["transformer"] += rows
+            self.row_of |= {row.name: at for row in rows}
             self.network.used.update(unit.buses)
             self.network.earthing.update(unit.earthed)
+
+    def sources_text(self) -> str:
+        """The table of sources beside the case."""
+        lists = {name: [row.name for row in self.case.lists[name]] for name in WITH_SOURCE}
+        return sources_table(Sources(self.zone_inputs, self.sources), lists).csv()
+
+    # Questions
+
+    def seen_zone(self, at: Record) -> SeenZone:
+        stations = sorted(self.network.stations_of.get(at.text("name"), set()))
+        places = [self.network.places[name] for name in stations if name in self.network.places]
+        numbers = [float(at.number(column)) for column in ("geomagnetic_latitude", "beta")]
+        return SeenZone(at.text("name"), numbers[0], numbers[1], at.text("earth_model"), places)
+
+    def doubts(self) -> list[Finding]:
+        """What is asked about the network; none of it keeps the case from being made."""
+        rows = self.tables.rows
+        notes = {name: at.text("note") for table in rows.values() for name, at in table.items()}
+        notes |= {row.name: row.note for row in self.case.lists["transformer"]}
+        stations: dict[str, str] = {}
+        for name, at in self.row_of.items():
+            bus = rows[BUSES].get(at.text("high"))
+            stations |= {} if bus is None else {name: bus.text("substation")}
+        kilovolts = {name: float(number) for name, number in self.network.kilovolts.items()}
+        zones = [self.seen_zone(at) for at in rows[ZONES].values()]
+        seen = Seen(self.case, kilovolts, self.network.places, zones, notes, at_station=stations)
+        return [self.asked(doubt) for doubt in doubts_of(seen)]
+
+    def asked(self, doubt: Doubt) -> Finding:
+        """A question as it is told: with its line where it is about one row."""
+        table = {list_name: table for table, list_name in zip(COLUMNS, LISTS)}[doubt.list]
+        named = [self.row_of.get(name) or self.tables.rows[table].get(name) for name in doubt.names]
+        places = list(dict.fromkeys((at.file, at.line) for at in named if at is not None))
+        return Finding(places[0][0], doubt.text, places[0][1] if len(places) == 1 else None)
+
+
+def remarks_of_unit(at: Record, many: int) -> list[str]:
+    """What else is said of a unit in the case, and answers a question: that it is one of several, and that its neutral isn't one."""
+    letters = letters_of(at.text("vector_group")) or []
+    remarks = [f"one of {many} equal ones side by side"] if many > 1 else []
+    return [*remarks, *(["its neutral is not earthed"] if letters[:1] == ["Y"] and "A" in letters else [])]
+
+
+def with_remarks(row: Row, remarks: list[str]) -> Row:
+    return dataclasses.replace(row, note="; ".join(filter(None, (row.note, *remarks))))
 
 
 @dataclasses.dataclass(frozen=True)
 class Made:
     case: str
+    sources: str
     notes: list[Finding]
+    rounding: str
 
 
 def in_order(tables: Tables, findings: list[Finding]) -> list[Finding]:
@@ -217,11 +286,12 @@ def make_case(folder: str, choices: Choices) -> Made:
     making.make()
     if tables.findings:
         raise Refused(in_order(tables, tables.findings))
-    notes = in_order(tables, making.notes)
+    notes = in_order(tables, [*making.notes, *making.doubts()])
     left = "it takes nothing away; leave it out"
     notes += [Finding(f"--accept={name}", left) for name in making.questions.left()]
     origin = "Made by gicdesk case: change the tables, and make it again."
     accepted = sorted(making.questions.taken)
     if accepted:
         origin += f" Accepted: {', '.join(accepted)}."
-    return Made(short_enough(making.case.text(origin), folder, notes), notes)
+    text = short_enough(making.case.text(origin), folder, notes)
+    return Made(text, making.sources_text(), notes, making.rounding.text)

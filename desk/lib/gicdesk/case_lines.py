@@ -5,16 +5,17 @@ import math
 from collections.abc import Sequence
 from fractions import Fraction
 
-from .alpha import Scale
+from .alpha import NO_SCALE, Scale
 from .borders import Stretch
 from .case_tables import BUSES, ZONES, Questions, Tables
 from .cases import Field, Row
 from .decimals import MICRO, MILLI, shifted
 from .findings import shown
 from .parts import Piece, Span, crossed_zones, fields_of, pieces_of, pieces_text, too_long, way_fault
-from .places import MOST_KM, SHORT_M, SPAN_FROM_MAP_M, Place, span_metres
+from .places import MOST_KM, SHORT_M, SPAN_FROM_MAP_M, Place, exact_metres, span_metres
 from .quantities import KILOMETRE, OHM, PER_UNIT, Number, bare, number_in, whole
 from .records import Record
+from .rounding import Rounding, meant, written
 from .usual import BASE_MVA, short, unusual_line
 
 CAPACITOR = "yes"
@@ -26,6 +27,7 @@ class Network:
 
     scales: dict[str, Scale] = dataclasses.field(default_factory=dict)  # of zones
     places: dict[str, Place] = dataclasses.field(default_factory=dict)  # of substations
+    unplaced: set[str] = dataclasses.field(default_factory=set)  # substations without coordinates
     kilovolts: dict[str, Number] = dataclasses.field(default_factory=dict)  # of buses
     highest: dict[str, Number] = dataclasses.field(default_factory=dict)  # of substations, the kilovolts of their buses
     stations_of: dict[str, set[str]] = dataclasses.field(default_factory=dict)  # of zones, those that its lines join
@@ -42,6 +44,8 @@ class Line:
     tables: Tables
     network: Network
     questions: Questions
+    exact: tuple[float, float] = (0.0, 0.0)  # the span in metres without rounding
+    rounding: Rounding = dataclasses.field(default_factory=Rounding)
     buses: set[str] = dataclasses.field(default_factory=set)
     zones: set[str] = dataclasses.field(default_factory=set)
     stations: set[str] = dataclasses.field(default_factory=set)
@@ -57,9 +61,12 @@ class Line:
             self.at.wrong("capacitor", f"{shown(capacitor)} is neither yes nor empty; write one of these")
         stations = [end.text("substation") for end in ends if end is not None]
         places = [self.network.places[station] for station in stations if station in self.network.places]
-        if len(places) < 2:
+        unplaced = [station for station in stations if station in self.network.unplaced]
+        if len(places) + len(unplaced) < 2:
             self.zone_cell()
             return []
+        if unplaced:
+            places = []
         span = self.span(places)
         pieces = self.pieces(places, span)
         if len(pieces) == 1:  # (one over a border says nothing of the latitude of a zone)
@@ -69,7 +76,11 @@ class Line:
             return []
         if kilovolts is not None and stations[0] != stations[1]:
             self.ask_usual(ohm, kilovolts, span)
-        return [Row(name, self.fields(pieces, ohm, span), self.at.text("note")) for name in self.names]
+        rows = [Row(name, self.fields(pieces, ohm, span), self.at.text("note")) for name in self.names]
+        if not self.at.text("capacitor"):
+            for row in rows:
+                self.rounding.add(row.name, meant(pieces, self.exact, self.scale), written(row, self.scale))
+        return rows
 
     def ohm(self, kilovolts: Number | None) -> Number | None:
         """The resistance of a phase, written in ohm or per unit; None where it isn't one, which is a finding."""
@@ -107,11 +118,16 @@ class Line:
         return first
 
     def span(self, places: Sequence[Place]) -> Span | None:
-        """The span of a line: what the table gives, or else that of the coordinates of its ends."""
-        mapped = span_metres(places[0], places[1])
+        """The span of a line: what the table gives, or else that of the coordinates of its ends, where both have some."""
+        mapped = span_metres(places[0], places[1]) if places else None
         given = [column for column in ("north_km", "east_km") if self.at.text(column)]
+        if not given and mapped is None:
+            words = "it is empty, and an end of the line lies at a substation without coordinates"
+            self.at.wrong("north_km", f"{words}; write the span, or the coordinates")
+            return None
         if not given:
-            return self.span_of_map(mapped)
+            self.exact = exact_metres(places[0], places[1]) if places else self.exact
+            return None if mapped is None else self.span_of_map(mapped)
         if len(given) == 1:
             column = "east_km" if given == ["north_km"] else "north_km"
             self.at.wrong(column, "it is empty, and the other part of the span is given; write both or neither")
@@ -120,7 +136,8 @@ class Line:
         if north is None or east is None:
             return None
         span = whole(north, KILOMETRE), whole(east, KILOMETRE)
-        for column, here, there in zip(("north_km", "east_km"), span, mapped):
+        self.exact = 1000 * float(north), 1000 * float(east)
+        for column, here, there in zip(("north_km", "east_km"), span, mapped or span):
             if abs(here - there) > SPAN_FROM_MAP_M:
                 words = f"it is {here / 1000:g}, and by the coordinates {there / 1000:g}"
                 self.questions.ask_of_row("span", self.at, column, words, "look at its sign, and at from and to")
@@ -158,13 +175,13 @@ class Line:
         its way lies in; and else in parts, by the borders of the zones."""
         zones = list(self.tables.rows[ZONES])
         borders = self.tables.borders
-        way = [] if borders is None else borders.stretches(places[0], places[1])
+        way = [] if borders is None or not places else borders.stretches(places[0], places[1])
         if self.at.text("zone"):
             return self.written(way, span)
         if len(zones) == 1:
             return [Piece(zones[0])]
         if not way:
-            allowed = f"write one of {', '.join(zones[:9])}, or add a table polygons.csv"
+            allowed = f"write one of {', '.join(zones[:9])}" + ("" if borders is not None else ", or add a table polygons.csv")
             self.at.wrong("zone", f"it is empty; {allowed}")
             return []
         way = way[:1] if self.at.text("capacitor") else way
@@ -211,6 +228,8 @@ class Line:
             fields.append(Field("blocked", True, "a series capacitor passes no direct current"))
         return fields
 
+    def scale(self, zone: str) -> Scale:
+        return self.network.scales.get(zone, NO_SCALE)
+
     def factor(self, zone: str) -> Fraction:
-        scale = self.network.scales.get(zone)
-        return Fraction(1) if scale is None else scale.factor
+        return self.scale(zone).factor

@@ -23,10 +23,10 @@ COLUMNS = {
 }
 OPTIONAL = {
     ZONES: ["alpha", "earth_model", "note"],
-    SUBSTATIONS: ["tolerance", "note"],
+    SUBSTATIONS: ["tolerance", "source", "note"],
     BUSES: ["note"],
-    LINES: ["per_unit", "parallel", "note"],
-    TRANSFORMERS: ["vector_group", "third", "third_kv", "third_ohm", "parallel", "note"],
+    LINES: ["per_unit", "parallel", "source", "note"],
+    TRANSFORMERS: ["vector_group", "third", "third_kv", "third_ohm", "parallel", "source", "note"],
 }
 PARALLEL = [str(number) for number in range(1, 21)]  # how many equal ones a row may stand for
 # The kinds of findings that --accept takes away.

@@ -5,7 +5,7 @@ from collections.abc import Sequence
 
 from .beyond import REACTOR, THREE_SIDED, reactor_row, with_third
 from .case_tables import BUSES, Questions, Tables
-from .cases import Field, Row
+from .cases import FLOATING, Field, Row
 from .findings import shown
 from .quantities import KILOVOLT, OHM, Number, bare, number_in, whole
 from .records import Record
@@ -195,7 +195,8 @@ class Unit:
         if not text or not KINDS[self.at.text("kind")]:
             return []
         if text == BLOCKED:
-            return [Field("neutral", BLOCKED, "a blocking device between the neutral and the ground grid")]
+            joined = self.at.text("kind") == "wye-wye"
+            return [Field("neutral", BLOCKED, FLOATING if joined else "a blocking device between the neutral and the ground grid")]
         if any(letter.isalpha() and letter not in "eE" for letter in text):
             self.at.wrong("neutral", f"{shown(text)} is no number; write ohm, or {BLOCKED}, or nothing")
             return []

@@ -19,6 +19,7 @@ MOST_ROWS_2 = {"zone": 256, "substation": 1024, "bus": 3072, "line": 8192, "tran
 MOST_ROWS_3 = {"zone": 256, "substation": 4096, "bus": 12288, "line": 24576, "transformer": 8192}
 KINDS_2 = ("delta-wye", "wye-wye", "auto", "delta-delta")
 MOST_BYTES = 16_777_216  # of a case that the program reads
+FLOATING = "a blocking device between the neutral and the ground grid; the windings stay joined at the neutral"
 REMARK = re.compile("  # .*")
 
 

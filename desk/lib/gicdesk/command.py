@@ -9,16 +9,17 @@ import sys
 from collections.abc import Iterator, Sequence
 from typing import Any
 
-from . import case, case_tables, compare, grounds, layouts, losses, mitigate, outages, powermodels, powermodels_read
-from . import psse, psse_units, reports, zones
-from .findings import Refused, refuse, visible
+from . import case, case_tables, compare, grounds, layouts, local, losses, mitigate, outages, powermodels
+from . import powermodels_read, powermodels_reading, psse, psse_shifters, psse_units, reports, reviews, zones
+from .findings import Finding, Refused, refuse, visible
 from .inputs import Copies, copied
 from .outputs import Set, files_set, folder_set, new_folder, study_set
+from .psse_factors import read_cores
 from .psse_grounds import read_grounds
 from .psse_half import HALF
 from .program import BUILT, Program, find_program
 from .stops import Stopped, signals_taken
-from .study import FILES, OPTIONS, Request, make_study, study_text
+from .study import FILES, HEAD, OPTIONS, Request, make_study, study_text
 from .study_files import WORKBOOK, files_of, page_of
 from .tell import tell
 from .workbook import LIBRARIES
@@ -178,6 +179,33 @@ def add_grounds(commands: Any) -> None:
     words.set_defaults(run=run_grounds)
 
 
+def run_local(options: argparse.Namespace) -> None:
+    roles, depth = ("case", "switch", "places"), local.read_depth(options.storm_depth)
+    folder: contextlib.AbstractContextManager[Set | None] = contextlib.nullcontext()
+    if options.out is not None:
+        folder = new_folder(options.out, read_names(options, roles))
+    with folder as out, program_and_copies(options, roles) as (program, copies):
+        words = () if options.width is None else (f"--width={options.width}",)
+        asked = outages.Asked(program, copies, options.case, options.switch, words)
+        found = local.make_local(asked, depth, options.places)
+        if out is not None:
+            out.publish(local.files_of(found, options.comma))
+    show(local.report_text(asked, found))
+
+
+def add_local(commands: Any) -> None:
+    words = commands.add_parser("local", help="strips of zones at the field of the supplemental event: the worst for each unit")
+    add_case_file(words)
+    words.add_argument("--storm-depth", metavar="KM", required=True, help="how deep a strip is from south to north, in km")
+    words.add_argument("--places", metavar="FILE", help="a table with name, latitude and longitude; else the spans say where zones lie")
+    words.add_argument("--switch", metavar="FILE", help="switchings that are in force in each run")
+    add_width(words)
+    add_program(words)
+    words.add_argument("--out", metavar="FOLDER", help="a new folder for the tables and the storms")
+    add_comma(words)
+    words.set_defaults(run=run_local)
+
+
 def run_mitigate(options: argparse.Namespace) -> None:
     roles, names = ("case", "switch"), [mitigate.RANKING, mitigate.CURRENTS, mitigate.BEST]
     device, paired = mitigate.read_device(options.ohm), mitigate.read_pairs(options.pairs)
@@ -206,12 +234,14 @@ def add_mitigate(commands: Any) -> None:
 
 
 def run_study(options: argparse.Namespace) -> None:
-    given = {name: getattr(options, name) for name in OPTIONS}
+    given: dict[str, Any] = {name: getattr(options, name) for name in OPTIONS}
+    given["tolerance"] = None if options.tolerance is None else grounds.read_tolerance(options.tolerance)
+    given["head"] = {name: text for name in HEAD if (text := getattr(options, name)) is not None}
     with (
         study_set(options.out, options.force, read_names(options, FILES)) as out,
         program_and_copies(options, FILES) as (program, copies),
     ):
-        made = make_study(Request(program, copies, options.case, **given))
+        made = make_study(Request(program, copies, options.case, has_devices=options.mitigate, **given))
         files = files_of(made, options.comma, options.xlsx)
         out.publish(files)
     if options.xlsx and WORKBOOK not in files:
@@ -261,16 +291,29 @@ def run_powermodels(options: argparse.Namespace) -> None:
     show(visible(f"{options.out} is made: {nodes} rows gmd_bus and {branches} gmd_branch") + "\n")
 
 
+def made_text(notes: Sequence[Finding], out: str, rounding: str) -> str:
+    """What is told of a case that is made: the notes, and how far its rounding is off."""
+    return "".join(f"{note}\n" for note in (*notes, Finding(out, rounding)))
+
+
 def run_from_powermodels(options: argparse.Namespace) -> None:
+    reading = powermodels_reading.read_reading(options.field, options.resistances, options.grounds)
     with files_set([options.out], options.force, [options.north, options.east]) as out:
-        out.publish({file_name(options.out): powermodels_read.make_case(options.north, options.east)})
-    show(visible(f"{options.out} is made") + "\n")
+        made = powermodels_read.make_case(options.north, options.east, reading)
+        out.publish({file_name(options.out): made.case})
+    show(made_text(made.notes, options.out, made.rounding) + visible(f"{options.out} is made") + "\n")
 
 
 def add_from_powermodels(commands: Any) -> None:
     words = commands.add_parser("from-powermodels", help="a case from GMD data of PowerModels, as JSON, in two fields")
     words.add_argument("north", metavar="NORTH.json", help="the data with voltages in 1 V/km to the north")
     words.add_argument("east", metavar="EAST.json", help="the data with voltages in 1 V/km to the east")
+    field = "the field of both files in V/km; without it what the files say that powermodels has written, and else 1"
+    words.add_argument("--field", metavar="NUMBER", help=field)
+    phases = (powermodels_reading.TOGETHER, powermodels_reading.PHASE)
+    words.add_argument("--resistances", choices=phases, default=phases[0], help="of which br_r is: the three phases together, or one")
+    units = (powermodels_reading.SIEMENS, powermodels_reading.OHM)
+    words.add_argument("--grounds", choices=units, default=units[0], help="the unit of g_gnd")
     add_new_file(words, "CASE", "a new file for the case")
     words.set_defaults(run=run_from_powermodels)
 
@@ -287,6 +330,20 @@ def add_powermodels(commands: Any) -> None:
     words.set_defaults(run=run_powermodels)
 
 
+def run_review(options: argparse.Namespace) -> None:
+    with program_and_copies(options, ("case", "places")) as (program, copies):
+        reviewed = reviews.make_review(Request(program, copies, options.case, places=options.places))
+    show(reviews.review_text(reviewed))
+
+
+def add_review(commands: Any) -> None:
+    words = commands.add_parser("review", help="what of a case is unusual, as questions; with places no loop that they explain")
+    add_case_file(words)
+    words.add_argument("--places", metavar="FILE", help="a table with name, latitude and longitude, which spans are compared with")
+    add_program(words)
+    words.set_defaults(run=run_review)
+
+
 def add_study(commands: Any) -> None:
     words = commands.add_parser("study", help="the whole study of a case: every report, each as a table, and one page")
     add_case_file(words)
@@ -296,6 +353,12 @@ def add_study(commands: Any) -> None:
     words.add_argument("--factors", metavar="FILE", help="a table transformer,mvar_per_ampere,at_kv, for losses")
     words.add_argument("--events", metavar="FILE", help="a table event,item,action of outages of several items")
     words.add_argument("--places", metavar="FILE", help="a table with name, latitude and longitude, for the map")
+    words.add_argument("--sources", metavar="FILE", help="the table of sources that case or psse has written beside the case")
+    words.add_argument("--tolerance", metavar="PERCENT", help="how far each ground may be off, for what holds whatever they are")
+    words.add_argument("--mitigate", action="store_true", help="a blocking device in each neutral in turn")
+    for name in HEAD:
+        told = f"the {name.replace('data_date', 'date of the data')} at the head of the page; a line to write on without it"
+        words.add_argument(f"--{name.replace('_', '-')}", metavar="TEXT", help=told)
     add_width(words)
     add_program(words)
     words.add_argument("--out", metavar="FOLDER", required=True, help="a new folder for all of it")
@@ -308,24 +371,43 @@ def add_study(commands: Any) -> None:
 def run_psse(options: argparse.Namespace) -> None:
     stem = os.path.splitext(options.out)[0]
     names, factors = f"{stem}.names.csv", f"{stem}.factors.csv"
-    written = [options.out, names, *([factors] if options.factors else [])]
+    sources = sources_file(options.out)
+    written = [options.out, names, *([factors] if options.factors else []), *([sources] if options.sources else [])]
     tables = zones.ZoneFiles(options.zones, options.substations, options.polygons, options.lines, options.earth_models)
-    read = [options.raw, options.gic, *(name for name in dataclasses.astuple(tables) if name is not None)]
+    beside = (*dataclasses.astuple(tables), options.core_factors)
+    read = [options.raw, options.gic, *(name for name in beside if name is not None)]
     grounds = read_grounds(options.blank_ground, options.ungrounded)
-    choices = psse.Choices(options.beyond, options.vector, options.alpha, options.windings, grounds, options.factors)
+    findings: list[Finding] = []
+    cores = read_cores(options.core_factors, findings)
+    if findings:
+        raise Refused(findings)
+    taken = (options.beyond, options.vector, options.alpha, options.windings, grounds, options.factors, options.phase_shifter)
+    choices = psse.Choices(*taken, cores)
     with files_set(written, options.force, read) as out:
         made = psse.make_case(options.raw, options.gic, tables, choices)
-        texts = {options.out: made.case, names: made.names, factors: made.factors}
+        texts = {options.out: made.case, names: made.names, factors: made.factors, sources: made.sources}
         out.publish({file_name(name): texts[name] for name in written})
-    told = "".join(f"{note}\n" for note in made.notes)
+    told = made_text(made.notes, options.out, made.rounding)
     show(told + visible(f"{options.out} is made, and {names} says what its names stand for") + "\n")
 
 
+def sources_file(case_file: str) -> str:
+    """The name of the table of sources beside a case."""
+    return f"{os.path.splitext(case_file)[0]}.sources.csv"
+
+
+def add_sources(words: argparse.ArgumentParser) -> None:
+    told = "a table beside the case, for study: latitude, alpha, beta and earth model of zones, and sources of resistances"
+    words.add_argument("--sources", action="store_true", help=told)
+
+
 def run_case(options: argparse.Namespace) -> None:
-    with files_set([options.out], options.force, case_tables.files_of(options.tables)) as out:
+    written = [options.out, *([sources_file(options.out)] if options.sources else [])]
+    with files_set(written, options.force, case_tables.files_of(options.tables)) as out:
         made = case.make_case(options.tables, case.Choices(options.alpha, tuple(options.accept)))
-        out.publish({file_name(options.out): made.case})
-    show("".join(f"{note}\n" for note in made.notes) + visible(f"{options.out} is made") + "\n")
+        texts = {options.out: made.case, sources_file(options.out): made.sources}
+        out.publish({file_name(name): texts[name] for name in written})
+    show(made_text(made.notes, options.out, made.rounding) + visible(f"{options.out} is made") + "\n")
 
 
 def add_case(commands: Any) -> None:
@@ -339,6 +421,7 @@ def add_case(commands: Any) -> None:
         default=[],
         help=f"take all findings of a kind as they are: {', '.join(case_tables.KINDS)}; or that of one row, as winding:T1",
     )
+    add_sources(words)
     add_new_file(words, "CASE", "a new file for the case")
     words.set_defaults(run=run_case)
 
@@ -379,6 +462,8 @@ def command_words() -> argparse.ArgumentParser:
 
     add_mitigate(commands)
     add_grounds(commands)
+    add_local(commands)
+    add_review(commands)
     add_study(commands)
     add_losses(commands)
     add_powermodels(commands)
@@ -396,8 +481,13 @@ def command_words() -> argparse.ArgumentParser:
     four.add_argument("--alpha", metavar="WAY", default=FORMULA, help=WAYS)
     four.add_argument("--beyond", choices=psse_units.CHOICES, help=told)
     four.add_argument("--factors", action="store_true", help="a table of factors for losses beside the case")
+    cores = "a table core,mvar_per_ampere,at_kv, in the place of the published factors of cores and beside them"
+    four.add_argument("--core-factors", metavar="FILE", help=cores)
+    add_sources(four)
     taken = "half: a winding of 0 ohm has half of R1-2 of the power flow"
     four.add_argument("--windings", choices=(HALF,), help=taken)
+    shifter = "a unit between two buses of one voltage: line, a resistance in series, or windings, by its vector group"
+    four.add_argument("--phase-shifter", choices=psse_shifters.CHOICES, help=shifter)
     four.add_argument("--blank-ground", metavar="OHM", help="the ground of a substation whose RG is empty")
     none = "an RG that means no ground, as 0 or 99; may be given several times"
     four.add_argument("--ungrounded", metavar="RG", action="append", default=[], help=none)

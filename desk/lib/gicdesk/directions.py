@@ -1,19 +1,33 @@
 """The directions of a uniform field, and the currents there, made of the two of a screen."""
 
+import cmath
 import math
 
 from .forms import Interval
 from .reports import Screen, ScreenUnit
 
 DIRECTIONS = 36
-STEP = 180 // DIRECTIONS  # degrees from one direction to the next
+HALF_TURN = 180  # degrees
+STEP = HALF_TURN // DIRECTIONS  # degrees from one direction to the next
+
+
+def lesser_way(north: float, east: float) -> complex:
+    """Of the two ways in which a field is worst, which bring the same current with both signs, the one whose bearing in whole
+    degrees is 0 to 179. The real part leads to the north, and the imaginary one to the east."""
+    way = complex(north, east)
+    return way if 0 <= round(math.degrees(cmath.phase(way))) < HALF_TURN else -way
+
+
+def degrees_of(way: complex) -> int:
+    """The bearing of a way in whole degrees from the north over the east, from 0 to 179: a field the other way gives as much."""
+    return round(math.degrees(cmath.phase(way))) % HALF_TURN
 
 
 def bearing_of(row: ScreenUnit) -> int | None:
     """The direction of the field that is worst, by the middles of the two currents; None where they may be 0."""
     if row.worst.low <= 0:
         return None
-    return round(math.degrees(math.atan2(row.east.middle, row.north.middle))) % 180
+    return degrees_of(lesser_way(row.north.middle, row.east.middle))
 
 
 def current_at(row: ScreenUnit, bearing: float) -> Interval:

@@ -6,15 +6,14 @@ the intervals are the program's.
 """
 
 import array
-import cmath
 import dataclasses
-import math
 import os
 import pathlib
 import tempfile
 from collections.abc import Callable, Iterator, Mapping, Sequence
 
 from .decimals import MILLI, middle_text, shifted
+from .directions import degrees_of, lesser_way
 from .events import BaseSwitchings, Event
 from .findings import refuse
 from .forms import Interval
@@ -26,11 +25,11 @@ from .tables import Table
 from .together import together
 from .waveforms import FieldSteps, Waveform
 
-FOLDER = "gict"  # of the study
+FOLDER = "gict"  # of the study, for the benchmark event
+BEYOND = f"{FOLDER}/supplemental"  # for the supplemental one
 TURNED, GIVEN = "turned", "given"
 KINDS = (TURNED, GIVEN)  # of curves, in the order in which they are run
-SUMMARY = f"{FOLDER}/summary"  # a table
-GIVEN_FIELD = f"{FOLDER}/given_field.csv"
+SUMMARY, GIVEN_FIELD = "summary", "given_field.csv"  # in the folder: a table, and a file
 
 
 @dataclasses.dataclass(frozen=True)
@@ -39,29 +38,39 @@ class Subject:
 
     row: ScreenUnit
     event: Event | None
+    folder: str = FOLDER
 
     @property
     def name(self) -> str:
         return self.row.name
 
     @property
+    def given_field(self) -> str:
+        """The name of the file with the field as it was given."""
+        return f"{self.folder}/{GIVEN_FIELD}"
+
+    @property
     def toward(self) -> complex:
-        """The direction of the field that is worst, by the middles of the currents to the north and to the east; in it the
-        current is positive."""
-        return complex(self.row.north.middle, self.row.east.middle)
+        """The direction of the field that is worst, by the middles of the currents to the north and to the east: of the two
+        ways the one of the lesser bearing, so that the current there may be negative."""
+        return lesser_way(self.row.north.middle, self.row.east.middle)
 
     @property
     def bearing(self) -> int:
-        """The same in whole degrees from the north over the east, from 0 to 359."""
-        return round(math.degrees(cmath.phase(self.toward))) % 360
+        """The same in whole degrees from the north over the east, from 0 to 179, as in the table of units."""
+        return degrees_of(self.toward)
 
     @property
     def out_text(self) -> str:
         return "" if self.event is None else str(self.event)
 
+    def report(self, kind: str) -> str:
+        """The name of a series of the unit among the commands."""
+        return f"{kind}_{self.name}" if self.folder == FOLDER else f"supplemental_{kind}_{self.name}"
+
     def file(self, kind: str, ending: str) -> str:
         """The name of a file of the unit in the study's folder."""
-        return f"{FOLDER}/{kind}_{self.name}.{ending}"
+        return f"{self.folder}/{kind}_{self.name}.{ending}"
 
 
 @dataclasses.dataclass(frozen=True)
@@ -153,12 +162,12 @@ class Maker:
             switchings = switchings_of(self.base, subject.event)
             turned = self.waveform.scaled(self.strength, subject.toward)
             yield Job(subject, turned, subject.file("turned_field", "csv"), switchings)
-            yield Job(subject, given, GIVEN_FIELD, switchings)
+            yield Job(subject, given, subject.given_field, switchings)
 
     def run_job(self, job: Job) -> Run:
         try:
             with tempfile.TemporaryDirectory(dir=self.scratch) as folder:
-                pathlib.Path(folder, FOLDER).mkdir()
+                pathlib.Path(folder, job.subject.folder).mkdir(parents=True)
                 pathlib.Path(folder, job.field_file).write_text(job.field.text)
                 if job.switchings is not None:
                     pathlib.Path(folder, job.subject.file("switch", "csv")).write_text(job.switchings)

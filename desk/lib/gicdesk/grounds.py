@@ -35,8 +35,10 @@ MEASURES = 3  # how many grounds are named, one after another
 CANDIDATES = 8  # how many are tried for each, those that move the open units most
 SHOWN = 40  # units on the terminal
 NO_MODE = "gicstudy: usage: mode"
+SETTLED = ("reaches", "below", "outside")
+OPEN = "open"  # what a unit is with another verdict
 JUDGED = ("reaches", "below", "undecided")
-COUNTED = {"reaches": "reaches", "below": "below", "undecided": "open", "outside": "outside"}
+COUNTED = ("reaches", "below", OPEN, "outside")
 
 
 def read_tolerance(text: str) -> int:
@@ -103,7 +105,8 @@ class Grounds:
 
 
 def open_names(robust: Screen) -> list[str]:
-    return [row.name for row in robust.rows if row.verdict == "undecided"]
+    """The judged units of which neither `reaches` nor `below` holds, whatever the word."""
+    return [row.name for row in robust.rows if row.verdict not in SETTLED]
 
 
 @dataclasses.dataclass(frozen=True)
@@ -224,22 +227,38 @@ def measured_first(judge: Judge, units: Sequence[OpenUnit], next_piece: Step) ->
             break
 
 
+def found_grounds(judge: Judge, whole: Screen, robust: Robust, progress: Progress) -> Grounds:
+    """What comes of the units that are left open, and which ground to measure next."""
+    progress.total += len(open_names(robust)) + MEASURES
+    units = list(open_units(judge, robust, progress.next))
+    before = progress.done
+    measured = list(measured_first(judge, units, progress.next))
+    progress.total -= MEASURES - (progress.done - before)
+    return Grounds(whole, robust, units, measured)
+
+
 def make_grounds(asked: Asked, tolerance: int) -> Grounds:
     look_for_mode(asked.program)
     judge = Judge(asked, tolerance)
-    whole = whole_result(asked)
-    if whole.screen is None:
-        raise refuse(asked.case, f"its network is {whole.outcome.word} at {whole.outcome.node}; mend that before")
-    robust = judge.robust(judge.run_robust(asked))
-    with Progress(len(open_names(robust)) + MEASURES) as progress:
-        units = list(open_units(judge, robust, progress.next))
-        measured = list(measured_first(judge, units, progress.next))
+    with Progress(2) as progress:
+        progress.next("screen")
+        whole = whole_result(asked)
+        if whole.screen is None:
+            raise refuse(asked.case, f"its network is {whole.outcome.word} at {whole.outcome.node}; mend that before")
+        progress.next("robust")
+        robust = judge.robust(judge.run_robust(asked))
+        found = found_grounds(judge, whole.screen, robust, progress)
     asked.program.look_for_change()
-    return Grounds(whole.screen, robust, units, measured)
+    return found
+
+
+def counted(verdict: str) -> str:
+    return verdict if verdict in SETTLED else OPEN
 
 
 def verdicts_text(screen: Screen) -> str:
-    return " ".join(f"{word} {sum(row.verdict == verdict for row in screen.rows)}" for verdict, word in COUNTED.items())
+    words = [counted(row.verdict) for row in screen.rows]
+    return " ".join(f"{word} {words.count(word)}" for word in COUNTED)
 
 
 def unit_cells(found: Grounds, unit: OpenUnit) -> list[str]:
@@ -287,11 +306,11 @@ def units_table(found: Grounds) -> Table:
 
 def measured_table(found: Grounds) -> Table:
     """How many units have each verdict: as the case has the grounds, within the tolerance, and with grounds measured."""
-    counted: list[tuple[str, Screen]] = [("as the case has them", found.whole), ("", found.robust)]
-    counted += [(" ".join(one.grounds), one.robust) for one in found.measured]
+    listed: list[tuple[str, Screen]] = [("as the case has them", found.whole), ("", found.robust)]
+    listed += [(" ".join(one.grounds), one.robust) for one in found.measured]
     rows = [
         [grounds, *(str(sum(row.verdict == verdict for row in screen.rows)) for verdict in JUDGED), " ".join(open_names(screen))]
-        for grounds, screen in counted
+        for grounds, screen in listed
     ]
     return Table(["measured", *JUDGED, "open"], rows)
 

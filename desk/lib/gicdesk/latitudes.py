@@ -13,6 +13,7 @@ POLE = 80.8, -72.7  # degrees to the north and to the east: the pole of the dipo
 NEAR = 4.0  # degrees: a geomagnetic latitude is this near to the dipole's
 NEAR_GEOGRAPHIC = 1.0  # and one this near to the geographic latitude is taken for that,
 APART = 2.0  # where it is further than this from the dipole's
+ASKED = 1.5  # degrees: one that is further than this from the dipole's is a question
 
 
 def dipole_latitude(place: tuple[float, float]) -> float:
@@ -26,6 +27,17 @@ def dipole_latitude(place: tuple[float, float]) -> float:
 def beyond(number: float, within: Sequence[float]) -> float:
     """How far a number is outside of the range of others; 0 within it."""
     return max(min(within) - number, number - max(within), 0.0)
+
+
+def latitude_off(given: float, places: Sequence[Place]) -> str | None:
+    """How far a latitude is off those of the dipole, where it is further than most are and `latitude_words` says nothing of it."""
+    if not places or latitude_words(given, places) is not None:
+        return None
+    dipole = [dipole_latitude((float(place[0]), float(place[1]))) for place in places]
+    off = beyond(given, dipole)
+    if off <= ASKED:
+        return None
+    return f"{off:.1f} off the {min(dipole):.1f} to {max(dipole):.1f} of its stations as seen from the pole of the earth's dipole"
 
 
 def latitude_words(given: float, places: Sequence[Place]) -> str | None:

@@ -183,6 +183,16 @@ def ranked(measures: Iterable[Measure]) -> list[Measure]:
 
 def make_mitigation(asked: Asked, device: Device, paired: int) -> Mitigation:
     """Each device alone, and pairs of the best of them, as many as `paired` says."""
+    with Progress(0) as progress:
+        found = tried_devices(asked, device, paired, progress)
+    asked.program.look_for_change()
+    return found
+
+
+def tried_devices(asked: Asked, device: Device, paired: int, progress: Progress) -> Mitigation:
+    """The same as a part of other work."""
+    progress.total += 1
+    progress.next("screen")
     whole_network = whole_result(asked)
     if whole_network.screen is None:
         raise refuse(asked.case, f"its network is {whole_network.outcome.word} at {whole_network.outcome.node}; mend that before")
@@ -190,13 +200,12 @@ def make_mitigation(asked: Asked, device: Device, paired: int) -> Mitigation:
     units = [(row.name,) for row in trier.case.lists["transformer"] if device.fits(row)]
     if not units:
         raise refuse(asked.case, f"no unit of it has a neutral that can have {device}")
-    with Progress(len(units)) as progress:
-        single = ranked(trier.measures(units, progress.next))
-        best = [measure.units[0] for measure in single if measure.result.screen is not None][:paired]
-        tried = list(itertools.combinations(best, 2))
-        progress.total += len(tried)
-        pairs = ranked(trier.measures(tried, progress.next))
-    asked.program.look_for_change()
+    progress.total += len(units)
+    single = ranked(trier.measures(units, progress.next))
+    best = [measure.units[0] for measure in single if measure.result.screen is not None][:paired]
+    tried = list(itertools.combinations(best, 2))
+    progress.total += len(tried)
+    pairs = ranked(trier.measures(tried, progress.next))
     whole, first = Measure((), whole_network, whole_network.screen), min((*single, *pairs), key=lambda measure: measure.rank)
     chosen = first if first.is_better(whole) else whole
     return Mitigation(device, whole, single, pairs, chosen, trier.text(chosen.units))

@@ -5,6 +5,7 @@ The program has taken the case, so its rules hold here.
 
 import collections
 import dataclasses
+import functools
 import tomllib
 from collections.abc import Iterable
 from typing import Any
@@ -36,6 +37,7 @@ class Network:
     links: list[Link]
     station_of: dict[str, str]  # of each transformer with a bus
     volts: dict[str, int]  # the rated voltage of each transformer's high side
+    names: frozenset[str] = frozenset()  # of all rows
 
 
 def span_of(row: dict[str, Any]) -> tuple[int, int]:
@@ -44,12 +46,20 @@ def span_of(row: dict[str, Any]) -> tuple[int, int]:
     return sum(part["north"] for part in parts), sum(part["east"] for part in parts)
 
 
-def network_of(data: bytes) -> Network | None:
-    """The network of a case that the program has taken; None where it is written in TOML 1.1, which Python doesn't
-    read."""
+@functools.lru_cache(maxsize=1)
+def read_case(data: bytes) -> dict[str, Any] | None:
+    """A case that the program has taken; None where it is written in TOML 1.1, which Python doesn't read. What is read once is kept,
+    and nobody changes it."""
     try:
-        case = tomllib.loads(data.decode("utf-8-sig"))
+        return tomllib.loads(data.decode("utf-8-sig"))
     except (tomllib.TOMLDecodeError, UnicodeDecodeError):
+        return None
+
+
+def network_of(data: bytes) -> Network | None:
+    """The network of a case that the program has taken; None where it isn't read."""
+    case = read_case(data)
+    if case is None:
         return None
     buses = {row["name"]: row["substation"] for row in case.get("bus", [])}
     units = case.get("transformer", [])
@@ -63,6 +73,7 @@ def network_of(data: bytes) -> Network | None:
         links,
         {row["name"]: buses[row["high"]] for row in units if "high" in row},
         {row["name"]: row["high_volts"] for row in units},
+        frozenset(row["name"] for rows in case.values() if isinstance(rows, list) for row in rows),
     )
 
 
@@ -78,12 +89,12 @@ def read_degrees(
     file: str, stations: Iterable[str], findings: list[Finding], data: bytes | None = None
 ) -> dict[str, Degrees]:
     """The latitudes and longitudes of the stations of a table. Names that the case doesn't have are left out, and so are
-    rows of a table of all names that have no place. `data` is what it holds, where it has been read already."""
+    rows without a place. `data` is what it holds, where it has been read already."""
     wanted = set(stations)
     found: dict[str, Degrees] = {}
     for at in read_table(file, PLACE_HEADS, findings, None, data):
         name = at.text("name")
-        if name not in wanted and not (at.text("latitude") or at.text("longitude")):
+        if not (at.text("latitude") or at.text("longitude")):
             continue
         degrees = degrees_in(at, "latitude", 90), degrees_in(at, "longitude", 360)
         if name in found:

@@ -269,19 +269,21 @@ def outage_report(asked: Asked) -> Outage:
 
 def find_outages(asked: Asked, file: str | None) -> Outages:
     """The outages of the events of a file; or, without one, of each single line and each single transformer."""
-    whole = whole_result(asked)
-    base = asked.base
-    runner = Runner(asked, base, file or asked.case)
-    if file is None:
-        with Progress(1) as progress:
+    with Progress(2) as progress:
+        progress.next("screen")
+        whole = whole_result(asked)
+        base = asked.base
+        runner = Runner(asked, base, file or asked.case)
+        if file is None:
             progress.next("the report of outage")
             outage = outage_report(asked)
-        with Progress(len(solved_items(outage))) as progress:
+            progress.total += len(solved_items(outage))
             results = single_results(runner, outage, progress.next)
-    else:
-        events = read_events(file, known_items(asked, whole), asked.copies.inputs["events"].data)
-        look_for_room(file, base, events)
-        with Progress(len(events)) as progress:
+        else:
+            progress.next("what can be switched")
+            events = read_events(file, known_items(asked, whole), asked.copies.inputs["events"].data)
+            look_for_room(file, base, events)
+            progress.total += len(events)
             results = listed_results(runner, events, progress.next)
     asked.program.look_for_change()
     return Outages(whole, results)

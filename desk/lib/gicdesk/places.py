@@ -17,8 +17,13 @@ def point(place: Place) -> Point:
 
 def span_metres(start: Place, end: Place) -> tuple[int, int]:
     """How far the second place lies to the north and to the east of the first, in whole metres."""
-    north, east = degrees_between((float(start[0]), float(start[1])), (float(end[0]), float(end[1])))
+    north, east = exact_metres(start, end)
     return round(north), round(east)
+
+
+def exact_metres(start: Place, end: Place) -> tuple[float, float]:
+    """The same without rounding."""
+    return degrees_between((float(start[0]), float(start[1])), (float(end[0]), float(end[1])))
 
 
 def degrees_between(start: tuple[float, float], end: tuple[float, float]) -> tuple[float, float]:

@@ -14,7 +14,7 @@ from typing import Any
 from .findings import Finding, Refused, refuse
 from .losses import bus_numbers
 from .network import read_degrees
-from .powermodels_form import CONFIGS, WINDINGS
+from .powermodels_form import CONFIGS, FIELD, WINDINGS
 from .progress import Progress
 from .reports import Element, Elements, Volts
 from .study import Request, Runs
@@ -45,10 +45,13 @@ class Data:
     gmd_branch: Table
     branch_gmd: Table
     bus_gmd: Table
+    field: tuple[int, int]  # to the north and to the east, in mV/km
 
     @property
     def text(self) -> str:
-        return json.dumps(dataclasses.asdict(self), indent=1) + "\n"
+        tables = dataclasses.asdict(self)
+        north, east = tables.pop("field")
+        return json.dumps(tables | {FIELD: {"north": north, "east": east}}, indent=1) + "\n"
 
 
 def indexed(rows: list[Row]) -> Table:
@@ -81,6 +84,7 @@ def data_of(
     volts: Mapping[str, int],
     numbers: Mapping[str, int],
     places: Mapping[str, tuple[float, float]],
+    field: tuple[int, int],
 ) -> Data:
     nodes = node_rows(elements, numbers)
     index = {str(row["name"]): place for place, row in enumerate(nodes, 1)}
@@ -110,10 +114,9 @@ def data_of(
     at = [
         (bus, places[bus["substation"]]) for bus in case.get("bus", []) if bus["name"] in index and bus["substation"] in places
     ]
-    where: list[Row] = [
-        {"name": bus["name"], "parent_index": numbers.get(bus["name"], NONE), "lat": lat, "lon": lon} for bus, (lat, lon) in at
-    ]
-    return Data(indexed(nodes), indexed(rows), indexed(units), indexed(where))
+    named = [(bus["name"], place) for bus, place in at]
+    where: list[Row] = [{"name": name, "parent_index": numbers.get(name, NONE), "lat": lat, "lon": lon} for name, (lat, lon) in named]
+    return Data(indexed(nodes), indexed(rows), indexed(units), indexed(where), field)
 
 
 def make_data(request: Request, asked: Asked) -> Data:
@@ -134,4 +137,4 @@ def make_data(request: Request, asked: Asked) -> Data:
     places = {} if asked.places is None else read_degrees(asked.places, stations, findings, request.data("places"))
     if findings:
         raise Refused(findings)
-    return data_of(case, elements, lines, numbers, places)
+    return data_of(case, elements, lines, numbers, places, (asked.north, asked.east))

@@ -11,3 +11,5 @@ WINDINGS_OF: dict[str, tuple[str, ...]] = {
     "auto": ("series", "common"),
     "delta-delta": (),
 }
+# The field of the data, as the desk writes it beside the tables: parts to the north and to the east, in mV/km.
+FIELD = "gicdesk_field"

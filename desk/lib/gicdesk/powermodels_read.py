@@ -13,7 +13,11 @@ from collections.abc import Mapping
 from .cases import Case, Field, Names, Row, short_enough
 from .files import read_text
 from .findings import Finding, Refused, refuse
-from .powermodels_form import CONFIGS, WINDINGS, WINDINGS_OF
+from .powermodels_checks import Extras, notes_of, read_extras, strength_of
+from .powermodels_form import CONFIGS, FIELD, WINDINGS, WINDINGS_OF
+from .powermodels_reading import OHM, PHASE, LineFacts, Reading, strength_fault
+from .powermodels_spans import exchange_fault
+from .rounding import Rounding
 
 STATUS = {"gmd_bus": "status", "gmd_branch": "br_status", "branch_gmd": "br_status"}  # of the tables that are read
 KINDS = {config: kind for kind, config in CONFIGS.items()}
@@ -60,8 +64,16 @@ class Entry:
 Table = dict[str, Entry]
 
 
-def read_data(file: str, findings: list[Finding]) -> dict[str, Table]:
-    """The tables of a file by the indices of their rows."""
+@dataclasses.dataclass(frozen=True)
+class Data:
+    """The tables of a file by the indices of their rows, and what it has beside them."""
+
+    tables: dict[str, Table]
+    beside: Mapping[str, object]
+
+
+def read_data(file: str, findings: list[Finding]) -> Data:
+    """The data of a file."""
     try:
         data = json.loads(read_text(file))
     except (ValueError, RecursionError) as error:  # (a number of more than 4300 digits is a ValueError alone)
@@ -75,7 +87,7 @@ def read_data(file: str, findings: list[Finding]) -> dict[str, Table]:
         for entry in tables[name].values():
             if entry.number(STATUS[name], 1.0) != 1:
                 entry.wrong(f"{STATUS[name]} is not 1: it is out of service, which a case has no key for; leave it out of the data")
-    return tables
+    return Data(tables, data)
 
 
 def scale_of(north: int, east: int) -> int:
@@ -100,10 +112,13 @@ class Unit:
 class Making:
     """A case in the making, of the tables of the field to the north and the branches of that to the east."""
 
-    def __init__(self, tables: dict[str, Table], east: Table) -> None:
+    def __init__(self, tables: dict[str, Table], east: Table, extras: Extras, reading: Reading, strength: float) -> None:
         self.nodes, self.branches, units = (tables[name] for name in STATUS)
-        self.east = east
+        self.east, self.extras, self.reading, self.strength = east, extras, reading, strength
         self.case, self.names = Case(), Names()
+        self.facts: list[LineFacts] = []
+        self.by_buses: list[str] = []  # units whose voltages are those of their buses
+        self.rounding = Rounding()
         self.siemens = {node: self.ground(at) for node, at in self.nodes.items()}
         self.lines = dict(self.branches)  # those that are no winding and no resistor of a neutral
         self.units = [unit for at in units.values() if (unit := self.read_unit(at)) is not None]
@@ -114,8 +129,12 @@ class Making:
     def ground(self, at: Entry) -> float:
         """What leads from a node to the earth, in siemens."""
         siemens = at.number("g_gnd", 0.0)
+        if self.reading.grounds == OHM and siemens != 0:
+            siemens = 1 / siemens if 0.001 <= siemens <= 1000 else 1e9
         if siemens != 0 and not 0.001 <= siemens <= 1000:
-            at.wrong(f"g_gnd is {siemens:g}, and a ground of a case has 0.001 to 1000 ohm; write 1 over its ohm, or 0 where there is none")
+            way = "its ohm" if self.reading.grounds == OHM else "1 over its ohm"
+            words = f"g_gnd is {at.number('g_gnd'):g}, and a ground of a case has 0.001 to 1000 ohm"
+            at.wrong(f"{words}; write {way}, or 0 where there is none")
         return siemens
 
     def ends(self, at: Entry) -> tuple[str, str]:
@@ -201,6 +220,7 @@ class Making:
                     in_station[self.of(node)] = station
                     self.case.lists["substation"].append(Row(station, []))
                 self.case.lists["bus"].append(Row(buses[node], [Field("substation", station)]))
+        self.facts = self.line_facts()
         scales: dict[int, str] = {}
         for index, at in self.lines.items():
             self.line(index, at, buses, scales)
@@ -209,9 +229,12 @@ class Making:
 
     def resistance(self, at: Entry, key: str, note: str = "3 times br_r: ohm per phase", phases: int = 3) -> Field:
         """A resistance of the case: of a phase, or of a neutral as it is."""
+        if self.reading.resistances == PHASE and phases == 3:
+            note, phases = "br_r: ohm per phase", 1
         ohm = phases * at.number("br_r")
         if not 0.001 <= ohm <= 1000:
-            whole = f"br_r is a third of {ohm:g} ohm, and a phase" if phases == 3 else f"br_r is {ohm:g} ohm, and a neutral resistor"
+            what = "a neutral resistor" if key == "neutral" else "a phase"
+            whole = f"br_r is a third of {ohm:g} ohm, and a phase" if phases == 3 else f"br_r is {ohm:g} ohm, and {what}"
             at.wrong(f"{whole} of a case has 0.001 to 1000")
         return Field(key, round(ohm * MICRO), note)
 
@@ -221,20 +244,56 @@ class Making:
         if not start or not end or other is None:
             at.wrong("it is no winding of a unit, and no line between two buses of both files; write its unit")
             return
-        north, east = round(at.number("br_v") * MICRO), round(other.number("br_v") * MICRO)
+        exact = at.number("br_v") / self.strength, other.number("br_v") / self.strength
+        north, east = (round(volts * MICRO) for volts in exact)
         scale = scale_of(north, east)
         if scale not in scales:
             scales[scale] = self.names.give(f"scale-{scale}", f"Z{scale}")
             self.case.lists["zone"].append(Row(scales[scale], [Field("scale", scale, "thousandths, by which voltages divide")]))
         fields = [Field("from", start), Field("to", end), Field("zone", scales[scale]), self.resistance(at, "resistance")]
         spans = [Field(key, round(volts / scale), "br_v over the scale") for key, volts in (("north", north), ("east", east))]
-        self.case.lists["line"].append(Row(self.names.give(at.name.removesuffix(" line"), f"L{index}"), [*fields, *spans]))
+        name = self.names.give(at.name.removesuffix(" line"), f"L{index}")
+        self.case.lists["line"].append(Row(name, [*fields, *spans]))
+        self.rounding.add(name, exact, (round(north / scale) * scale / MICRO, round(east / scale) * scale / MICRO))
+
+    def line_facts(self) -> list[LineFacts]:
+        """What the data say of each line."""
+        kilovolts: dict[str, float] = {}
+        for unit in self.units:
+            for side, node in zip(("hi", "lo"), unit.buses):
+                value = unit.at.values.get(f"{side}_kv", self.extras.kilovolts_of(unit.at.values.get(f"{side}_bus")))
+                if isinstance(value, (int, float)):
+                    kilovolts.setdefault(node, float(value))
+        facts = []
+        for index, at in self.lines.items():
+            (start, end), other = self.ends(at), self.east.get(index)
+            if start and end and other is not None:
+                volts = at.number("br_v") / self.strength, other.number("br_v") / self.strength
+                ohm = at.number("br_r") * (1 if self.reading.resistances == PHASE else 3)
+                known = kilovolts.get(start) or kilovolts.get(end) or self.extras.kilovolts_at(self.nodes[start].values)
+                mapped = self.extras.mapped(self.nodes[start].values, self.nodes[end].values)
+                length = self.extras.length_of(at.values)
+                name = at.name.removesuffix(" line") or index
+                facts.append(LineFacts(index, name, self.of(start), self.of(end), volts, ohm, known, mapped, length))
+        return facts
+
+    def volts(self, unit: Unit, side: str) -> Field:
+        """The rated voltage of a side of a unit: what stands there, or else that of its bus in the power flow."""
+        key, bus = f"{side[:2]}_kv", f"{side[:2]}_bus"
+        if key in unit.at.values:
+            return Field(f"{side}_volts", round(1000 * unit.at.number(key)), key)
+        kilovolts = self.extras.kilovolts_of(unit.at.values.get(bus))
+        if kilovolts is None:
+            unit.at.wrong(f"{key} is no number; write one, or base_kv of its {bus} in a table bus")
+            return Field(f"{side}_volts", 1000)
+        if unit.at.name not in self.by_buses:
+            self.by_buses.append(unit.at.name)
+        return Field(f"{side}_volts", round(1000 * kilovolts), f"base_kv of {bus}")
 
     def unit_row(self, unit: Unit, name: str, buses: Mapping[str, str]) -> Row:
-        volts = [Field("high_volts", round(1000 * unit.at.number("hi_kv")), "hi_kv")]
-        fields = [Field("kind", unit.kind), *volts]
+        fields = [Field("kind", unit.kind), self.volts(unit, "high")]
         for side, node in zip(("high", "low"), unit.buses):
-            fields += [Field("low_volts", round(1000 * unit.at.number("lo_kv")), "lo_kv")] if side == "low" else []
+            fields += [self.volts(unit, "low")] if side == "low" else []
             fields.append(Field(side, buses.get(node, "")))
         fields += [self.resistance(self.branches[index], f"{winding}_resistance") for winding, index in unit.windings.items()]
         return Row(name, [*fields, *self.neutrals.get(unit.earthed, [])])
@@ -246,19 +305,41 @@ def differing(table: str, north: Table, east: Table) -> list[str]:
     return [index for index in {**one, **other} if one.get(index) != other.get(index)]
 
 
-def make_case(north_file: str, east_file: str) -> str:
+def look_for_equal(north: Table, east: Table, files: tuple[str, str]) -> None:
+    """Refuses files of which all voltages are alike, as of one that is given twice."""
+    one, other = ({index: row.values.get("br_v", 0.0) for index, row in table.items()} for table in (north, east))
+    if one == other:
+        words = f"all its voltages are those of {files[0]}; is one file given twice? Write one in 1 V/km to the north, and one to the east"
+        raise refuse(files[1], words)
+
+
+@dataclasses.dataclass(frozen=True)
+class Made:
+    case: str
+    notes: list[Finding]
+    rounding: str
+
+
+def make_case(north_file: str, east_file: str, reading: Reading = Reading()) -> Made:
     """The case of two files; all that is wrong with any of them is told at once."""
     findings: list[Finding] = []
     north, east = read_data(north_file, findings), read_data(east_file, findings)
     for table in SAME:
-        odd = differing(table, north[table], east[table])
+        odd = differing(table, north.tables[table], east.tables[table])
         if odd:
             raise refuse(east_file, f"its {table} isn't that of {north_file}, as row {odd[0]}; write both of one network")
-    making = Making(north, east["gmd_branch"])
+    look_for_equal(north.tables["gmd_branch"], east.tables["gmd_branch"], (north_file, east_file))
+    fields = tuple(data.beside.get(FIELD) for data in (north, east))
+    strength = strength_of((north_file, east_file), fields, reading)
+    making = Making(north.tables, east.tables["gmd_branch"], read_extras(north.beside), reading, strength)
     if not findings:
         making.make()
     findings += [Finding(north_file, words) for words in making.case.too_many().values()]
+    facts = making.facts
+    faults = () if findings else (strength_fault(facts), exchange_fault(facts))
+    findings += [Finding(north_file, words) for words in faults if words is not None]
     if findings:
         raise Refused(findings)
+    notes = [Finding(north_file, words) for words in notes_of(facts, list(making.siemens.values()), making.by_buses, reading, strength)]
     origin = f"Made by gicdesk from-powermodels of {north_file} and {east_file}: change these, and make it again."
-    return short_enough(making.case.text(origin), north_file, [])
+    return Made(short_enough(making.case.text(origin), north_file, notes), notes, making.rounding.text)

@@ -5,23 +5,26 @@ import decimal
 import math
 from collections.abc import Sequence
 
-from . import psse_factors
+from . import psse_doubts, psse_factors
 from .autos import Auto, turned_words
 from .beyond import reactor_row
 from .cases import Case, Field, Names, Row, short_enough
 from .findings import Finding, Refused, collected
-from .parts import fields_of, too_long
+from .parts import Piece, fields_of, too_long
 from .places import MOST_KM, SHORT_M
 from .psse_gic import Gic, LineData, Reactor, Substation, Windings, read_gic
 from .psse_grounds import Grounds
 from .psse_half import Shares
 from .psse_raw import Branch, Key, Raw, Switch, Transformer, read_raw, title
 from .psse_sections import whole_lines
+from .psse_shifters import Shifter, shifter_of
 from .psse_stations import Stations
 from .psse_units import Beyond, Unit, micro_ohm, neutral_field, volts, windings_of
 from .psse_ways import Ways
 from .quantities import Number
 from .records import Record
+from .rounding import Rounding, meant, written
+from .seen import Seen
 from .tables import Table
 from .usual import GROUNDS, REACTORS, unusual, unusual_line, usual_at
 from .zone_scales import FORMULA, read_alpha
@@ -43,6 +46,8 @@ class Choices:
     windings: str | None = None  # what a resistance of 0 is met by
     grounds: Grounds = Grounds()
     factors: bool = False  # whether a table of factors is made
+    shifter: str | None = None  # how a unit between two buses of one voltage is taken
+    cores: psse_factors.Cores = dataclasses.field(default_factory=psse_factors.published)
 
 
 @dataclasses.dataclass
@@ -70,11 +75,13 @@ class Making:
         self.beyond = Beyond(choices.beyond, self.notes)
         self.case, self.names, self.groups = Case(), Names(), Groups()
         self.theirs: list[tuple[str, ...]] = []
+        self.rounding = Rounding()
         self.substation_names: dict[int, str] = {}
         self.bus_names: dict[int, str] = {}
-        self.factors: list[psse_factors.Row] = []
-        self.units = 0  # with a winding in the network
+        self.factors = psse_factors.Factors(choices.cores)
         self.without: set[int] = set()  # buses that were told to be in no substation
+        self.unit_at: dict[str, str] = {}  # the substation of each unit
+        self.blank: set[str] = set()  # substations whose ground stands blank, and has that of --blank-ground
 
     def tell(self, at: Record, words: str, column: str | None = None) -> None:
         self.notes.append(at.finding(words, column))
@@ -127,8 +134,9 @@ class Making:
             usual, what = usual_at(GROUNDS, kilovolts), f"grounds at {kilovolts:f} kV"
             self.tell_unusual(substation.record, "RG", unusual(ohm, usual, what, kilovolts))
             fields.append(Field("ground", micro, f"{ohm:f} ohm to remote earth"))
-        place = f"{substation.latitude:f}", f"{substation.longitude:f}"
-        self.add("substation", Row(name, fields), substation.name, [substation.number], "", place)
+            self.blank |= {name} if substation.ground is None else set()
+        latitude, longitude = ("", "") if substation.place is None else (f"{degrees:f}" for degrees in substation.place)
+        self.add("substation", Row(name, fields), substation.name, [substation.number], "", (latitude, longitude))
 
     def highest(self, substation: int) -> decimal.Decimal:
         """The highest voltage in a substation, in kV."""
@@ -246,7 +254,11 @@ class Making:
             if branch.sections:
                 what = "a section of a negative X, which is a series capacitor: it is"
             self.tell(branch.record, f"{name} has {what} blocked")
-        self.add("line", Row(name, fields), branch.name, branch.ends, branch.circuit)
+        row = Row(name, fields)
+        if branch.reactance >= 0:
+            exact = meant(pieces, self.ways.exact_span(branch, override, (north, east)), self.zones.scale)
+            self.rounding.add(name, exact, written(row, self.zones.scale))
+        self.add("line", row, branch.name, branch.ends, branch.circuit)
         return name
 
     def line_reactors(self, branch: Branch, name: str) -> None:
@@ -299,21 +311,41 @@ class Making:
             return
         name = self.names.give(unit.name, f"T{numbers}-{unit.circuit}")
         shares = Shares(self.choices.windings, self.raw.base_mva, self.notes)
+        shifter = shifter_of(name, unit, windings, data, self.choices.shifter)
+        if shifter is not None:
+            self.tell(unit.record, shifter.told)
+        if shifter is not None and shifter.is_line:
+            self.shifter(shifter, data, shares)
+            return
         making = Unit(unit.record, data.record, name, windings, self.bus, self.beyond, unit, shares)
         for row in making.rows():
             used = [row.value(end) for end in ("high", "low", "third") if row.value(end) is not None]
             if len(set(used)) < len(used):
                 unit.record.wrong(None, f"{what} has two buses that ties make one; open the tie between them")
             self.add("transformer", row, unit.name, unit.buses, unit.circuit)
+            self.unit_at[row.name] = self.substation_names[self.gic.substation_of[unit.buses[0]]]
             self.note_factor(row, data)
+
+    def shifter(self, shifter: Shifter, data: Windings, shares: Shares) -> None:
+        """A phase shifter as a line without a span."""
+        unit, (start, end) = shifter.unit, shifter.ends
+        resistance, told = shifter.resistance(data, shares)
+        self.tell(unit.record, f"{shifter.name} is a line {told}")
+        for bus in shifter.left_out:
+            self.tell(unit.record, f"the grounded winding of {shifter.name} at the bus {bus} is left out, since a line has none")
+        zone = self.ways.zone_within(self.gic.substation_of[start])
+        fields = [Field("from", self.bus(start)), Field("to", self.bus(end))]
+        if fields[0].value == fields[1].value:
+            unit.record.wrong(None, f"{shifter.name} has two buses that ties make one; open the tie between them")
+        if zone:
+            fields += fields_of([Piece(zone)], resistance, (0, 0), self.zones.factor)
+            self.add("line", Row(shifter.name, fields, "a phase shifter"), unit.name, unit.buses, unit.circuit)
 
     def note_factor(self, row: Row, data: Windings) -> None:
         """Keeps the factor for losses of a unit with a winding in the network."""
         high_volts = row.value("high_volts")
         if row.value("high") is not None and isinstance(high_volts, int):
-            self.units += 1
-            factor = psse_factors.factor_of(row.name, high_volts, data)
-            self.factors += [] if factor is None else [factor]
+            self.factors.add(row.name, high_volts, data)
 
     def reactor(self, reactor: Reactor) -> None:
         what = f"the reactor {title((reactor.bus,), reactor.circuit)}"
@@ -395,6 +427,15 @@ class Making:
             self.bus_names[first] = self.names.give(name, f"B{first}")
         return self.bus_names[first]
 
+    def seen(self) -> Seen:
+        """The network as the desk's questions look at it."""
+        kilovolts = {name: float(self.raw.buses[number].kilovolts) for number, name in self.bus_names.items()}
+        places = {self.substation_names[number]: place for number, place in self.ways.places_of(self.substation_names).items()}
+        of_zones = {zone: list(self.ways.places_of(sorted(stations)).values()) for zone, stations in self.ways.stations_of.items()}
+        zones = list(psse_doubts.seen_zones(self.zones.zones, of_zones))
+        notes = {row.name: row.note for row in self.case.lists["transformer"]}
+        return Seen(self.case, kilovolts, places, zones, notes, at_station=self.unit_at)
+
     def buses(self) -> None:
         """The buses that a line or a winding is at; the others carry no direct current, and are told as one number."""
         members: dict[int, list[int]] = {}
@@ -421,8 +462,10 @@ def branch_name(branch: Branch) -> str:
 class Made:
     case: str
     names: str
+    sources: str
     factors: str  # empty where none were asked for
     notes: list[Finding]
+    rounding: str
 
 
 def make_case(raw_file: str, gic_file: str, zone_files: ZoneFiles, choices: Choices) -> Made:
@@ -445,7 +488,9 @@ def make_case(raw_file: str, gic_file: str, zone_files: ZoneFiles, choices: Choi
     findings += [Finding(files.get(name, raw_file), words) for name, words in making.case.too_many().items()]
     if findings:
         raise Refused(findings)
+    notes += psse_doubts.questions(raw, gic, making.seen(), zone_files.zones)
     origin = f"Made by gicdesk psse of {raw_file} and {gic_file}: change these, and make it again."
     text = short_enough(making.case.text(origin), raw_file, notes)
-    factors = psse_factors.factors_text(making.factors, making.units, gic_file, choices.factors, notes)
-    return Made(text, Table(NAME_HEADS, making.theirs).csv(), factors, making.notes)
+    factors = making.factors.text(gic_file, choices.factors, notes)
+    sources = psse_doubts.sources_text(making.case, zones.zones, making.blank)
+    return Made(text, Table(NAME_HEADS, making.theirs).csv(), sources, factors, making.notes, making.rounding.text)

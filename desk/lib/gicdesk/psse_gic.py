@@ -7,8 +7,9 @@ from collections.abc import Mapping
 
 from .files import read_text
 from .findings import Finding, refuse
+from .places import Place
 from .psse_raw import Key, circuit_of, look_for_twins
-from .psse_stations import Station, Stations
+from .psse_stations import Station, Stations, read_place
 from .psse_text import Layout, by_number, read_sections, records_of, told_skipped
 from .records import Record
 
@@ -35,6 +36,7 @@ LAYOUT = Layout(
 )
 SIDES = ("I", "J", "K")
 APART = decimal.Decimal("0.01")  # degrees between two places of one substation that are told
+NO_PLACE = "it has no coordinates (both are empty or 0): each of its lines needs its span in the table of --lines"
 PASSED = ("EARTH MODEL",)  # what is skipped without a word
 
 
@@ -42,8 +44,7 @@ PASSED = ("EARTH MODEL",)  # what is skipped without a word
 class Substation:
     number: int
     name: str
-    latitude: decimal.Decimal
-    longitude: decimal.Decimal
+    place: Place | None
     ground: decimal.Decimal | None
     record: Record
 
@@ -94,25 +95,32 @@ class Gic:
 
 def read_substation(at: Record, stations: Mapping[int, Station], notes: list[Finding]) -> Substation:
     """A substation; what is empty of its place and its ground is that of the power flow, where it has any."""
-    station = stations.get(at.whole("I"))
-    if station is not None and not (at.text("LATITUDE") or at.text("LONGITUDE")):
+    station, place = stations.get(at.whole("I")), read_place(at)
+    if station is not None and place is None:
         name = at.text("NAME") or station.name
         ground = at.number("RG") if at.text("RG") else station.ground
         words = f"it has no place here: that of the power flow is taken{'' if at.text('RG') else ', and its SRG'}"
         notes.append(at.finding(words))
-        return Substation(station.number, name, station.latitude, station.longitude, ground, at)
+        return Substation(station.number, name, station.place, ground, at)
     unit = at.whole("UNIT", 0)
     if unit != 0:
         at.wrong("UNIT", f"it is {unit}; degrees are read, which is 0")
     ground = at.number("RG") if at.text("RG") else None
-    latitude, longitude = at.number("LATITUDE"), at.number("LONGITUDE")
-    for column, number, most in (("LATITUDE", latitude, 90), ("LONGITUDE", longitude, 180)):
+    for column, number, most in zip(("LATITUDE", "LONGITUDE"), place or (), (90, 180)):
         if abs(number) > most:
             at.wrong(column, f"it is {at.text(column)}, and not {-most} to {most} degrees")
-    if station is not None and any(abs(one - other) > APART for one, other in zip((latitude, longitude), station.place)):
-        words = f"it lies at {latitude:f}, {longitude:f}, and in the power flow at"
-        notes.append(at.finding(f"{words} {station.latitude:f}, {station.longitude:f}; look at both"))
-    return Substation(at.whole("I"), at.text("NAME"), latitude, longitude, ground, at)
+    if place is None:
+        notes.append(at.finding(NO_PLACE))
+    elif station is not None and station.place is not None:
+        tell_apart(at, place, station.place, notes)
+    return Substation(at.whole("I"), at.text("NAME"), place, ground, at)
+
+
+def tell_apart(at: Record, place: Place, other: Place, notes: list[Finding]) -> None:
+    """Tells of two places of one substation."""
+    if any(abs(one - two) > APART for one, two in zip(place, other)):
+        words = f"it lies at {place[0]:f}, {place[1]:f}, and in the power flow at"
+        notes.append(at.finding(f"{words} {other[0]:f}, {other[1]:f}; look at both"))
 
 
 def with_stations(
@@ -122,8 +130,10 @@ def with_stations(
     if not substations and stations.stations:
         for station in stations.stations.values():
             substations[station.number] = Substation(
-                station.number, station.name, station.latitude, station.longitude, station.ground, station.record
+                station.number, station.name, station.place, station.ground, station.record
             )
+            if station.place is None:
+                notes.append(station.record.finding(NO_PLACE))
         file = next(iter(stations.stations.values())).record.file
         notes.append(Finding(file, "substations, their places and SRG as their grounds are taken from here"))
     for bus, number in stations.station_of.items():
@@ -162,7 +172,7 @@ def read_gic(file: str, stations: Stations, findings: list[Finding], notes: list
         first += 1
     if not lines[first].replace(" ", "").upper().startswith("GICFILEVRSN="):
         raise refuse(file, "the first line isn't GICFILEVRSN=..; is it another file?", first + 1)
-    sections = read_sections(file, lines, first + 2, LAYOUT, findings)
+    sections = read_sections(file, lines, first + 2, LAYOUT, findings, notes)
     told_skipped(file, sections, LAYOUT, PASSED, notes)
     records = functools.partial(records_of, file, sections, LAYOUT, findings)
     read = (read_substation(at, stations.stations, notes) for at in records("SUBSTATION"))

@@ -36,7 +36,8 @@ OTHER_SECTIONS |= {"MULTI-SECTION LINE GROUPING": "MULTI-SECTION LINE", "MULTI S
 PASSED = ["SYSTEM-WIDE", "LOAD", "GENERATOR", "AREA", "ZONE", "OWNER"]
 PASSED += ["INTER-AREA TRANSFER", "IMPEDANCE CORRECTION"]
 TO_TRANSFORMERS = ["BUS", "LOAD", "FIXED SHUNT", "GENERATOR", "BRANCH", "TRANSFORMER", "AREA"]
-TO_33 = Layout(TO_TRANSFORMERS, COLUMNS, NEEDED, OTHER_SECTIONS)
+KNOWN = (*PASSED, STATIONS)
+TO_33 = Layout(TO_TRANSFORMERS, COLUMNS, NEEDED, OTHER_SECTIONS, KNOWN)
 FROM_34 = Layout(
     ["SYSTEM-WIDE", *TO_TRANSFORMERS[:5], "SYSTEM SWITCHING DEVICE", *TO_TRANSFORMERS[5:]],
     COLUMNS
@@ -46,6 +47,7 @@ FROM_34 = Layout(
     },
     NEEDED,
     OTHER_SECTIONS,
+    KNOWN,
 )
 VERSIONS = {30: TO_33, 31: TO_33, 32: TO_33, 33: TO_33, 34: FROM_34, 35: FROM_34, 36: FROM_34}
 Key = tuple[frozenset[int], str]  # the buses and the circuit
@@ -245,8 +247,8 @@ def read_raw(file: str, findings: list[Finding], notes: list[Finding]) -> Raw:
     """The network of a file. What is wrong with its fields becomes findings, and what is skipped is told."""
     lines = read_text(file, "latin-1").split("\n")
     first, base, layout = read_head(file, lines)
-    sections = read_sections(file, lines, first, layout, findings)
-    told_skipped(file, sections, layout, (*PASSED, STATIONS), notes)
+    sections = read_sections(file, lines, first, layout, findings, notes)
+    told_skipped(file, sections, layout, KNOWN, notes)
     records = functools.partial(records_of, file, sections, layout, findings)
     buses = by_number("bus", map(read_bus, records("BUS")))
     branches = [read_branch(at) for at in records("BRANCH")]

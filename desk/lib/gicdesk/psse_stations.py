@@ -7,29 +7,27 @@ that is there and 0 or 1; and a substation at whole degrees that read so by its 
 
 import dataclasses
 import decimal
+import re
 from collections.abc import Container, Sequence
 
 from .findings import Finding
+from .places import Place
 from .psse_text import SectionLine
 from .records import WHOLE, Record
 
 SECTION = "SUBSTATION"
 STATION = "IS NAME LATITUDE LONGITUDE SRG".split()
 NODE = "NI NAME I STATUS".split()
+NOTHING = re.compile(r"[+-]?(0+\.?0*|\.0+)?")  # an empty field, or 0
 
 
 @dataclasses.dataclass(frozen=True)
 class Station:
     number: int
     name: str
-    latitude: decimal.Decimal
-    longitude: decimal.Decimal
+    place: Place | None
     ground: decimal.Decimal | None  # SRG, None where it is empty
     record: Record
-
-    @property
-    def place(self) -> tuple[decimal.Decimal, decimal.Decimal]:
-        return self.latitude, self.longitude
 
 
 @dataclasses.dataclass
@@ -38,6 +36,16 @@ class Stations:
 
     stations: dict[int, Station] = dataclasses.field(default_factory=dict)
     station_of: dict[int, int] = dataclasses.field(default_factory=dict)
+
+
+def read_place(at: Record) -> Place | None:
+    """The latitude and the longitude of a substation. It has no place where both are empty or 0, as files leave what isn't
+    known."""
+    columns = ("LATITUDE", "LONGITUDE")
+    if all(NOTHING.fullmatch(at.text(column)) for column in columns):
+        return None
+    latitude, longitude = (at.number(column) for column in columns)
+    return latitude, longitude
 
 
 def is_node(fields: Sequence[str], buses: Container[int]) -> bool:
@@ -62,6 +70,5 @@ def read_stations(
         if last in found.stations:
             at.wrong("IS", f"the substation {last} stands in line {found.stations[last].record.line} already")
         ground = at.number("SRG") if at.text("SRG") else None
-        latitude, longitude = at.number("LATITUDE"), at.number("LONGITUDE")
-        found.stations[last] = Station(last, at.text("NAME"), latitude, longitude, ground, at)
+        found.stations[last] = Station(last, at.text("NAME"), read_place(at), ground, at)
     return found

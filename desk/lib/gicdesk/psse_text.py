@@ -14,9 +14,9 @@ from typing import Protocol, TypeVar
 
 from .counts import plural
 from .findings import Finding, shown
+from .psse_headings import begun, headings, section_of
 from .records import Record
 
-BEGIN = re.compile(r"BEGIN\s+(.*?)\s+DATA\b", re.IGNORECASE)
 # What columns are called beside the name that they have here.
 OTHER_NAMES = {"STAT": "ST", "STATUS": "ST", "IBUS": "I", "JBUS": "J", "KBUS": "K"}
 OTHER_NAMES |= {"BUSI": "I", "BUSJ": "J", "BUSK": "K", "CKTID": "CKT"}
@@ -66,9 +66,39 @@ class Layout:
     columns: dict[str, str]
     needed: dict[str, str]
     other_sections: dict[str, str] = dataclasses.field(default_factory=dict)
+    passed: Sequence[str] = ()  # sections that are known and say nothing of direct currents
 
-    def section(self, name: str) -> str:
-        return self.other_sections.get(name, name)
+    @property
+    def known(self) -> set[str]:
+        return {*self.order, *self.columns, *self.passed, *self.other_sections.values()}
+
+
+@dataclasses.dataclass
+class Sections:
+    """The sections of a file on the way: which one it is in, by its headings and by their order."""
+
+    layout: Layout
+    named: set[str]  # by any heading of the file
+    place: int = 0
+    section: str = ""
+
+    def next(self, line: str) -> str | None:
+        """Goes on to the section that a heading begins; what it is called where it is taken by its place."""
+        self.place += 1
+        name, order = begun(line), self.layout.order
+        follows = order[self.place] if self.place < len(order) else None
+        if name is None:
+            self.section = follows or "BEHIND ALL"
+            return None
+        self.section = section_of(name, self.layout.known, self.layout.other_sections)
+        if self.section in order:
+            self.place = order.index(self.section)
+        elif self.section not in self.layout.known and follows is not None and follows not in self.named:
+            self.section = follows
+            return name
+        else:
+            self.place -= 1
+        return None
 
 
 @dataclasses.dataclass(frozen=True)
@@ -87,11 +117,11 @@ def ends_section(section: str, line: str, fields: Sequence[str]) -> bool:
 
 
 def read_sections(
-    file: str, lines: Sequence[str], first: int, layout: Layout, findings: list[Finding]
+    file: str, lines: Sequence[str], first: int, layout: Layout, findings: list[Finding], notes: list[Finding] | None = None
 ) -> dict[str, list[SectionLine]]:
-    """The lines of each section from the line of this number on."""
+    """The lines of each section from the line of this number on. A section that is taken by its place is told."""
     sections: dict[str, list[SectionLine]] = {name: [] for name in layout.order}
-    place, section = 0, layout.order[0]
+    way = Sections(layout, headings(lines[first - 1 :], layout.known, layout.other_sections), 0, layout.order[0])
     named: list[str] = []
     is_begun = False  # a row of lines of names
     for number, line in enumerate(lines[first - 1 :], first):
@@ -111,17 +141,13 @@ def read_sections(
             continue
         if fields == ["Q"]:
             break
-        if ends_section(section, line, fields):
-            begun = BEGIN.search(line)
-            place += 1
-            if begun is not None:
-                section = layout.section(re.sub(r"\s+", " ", begun[1]).upper())
-                place = layout.order.index(section) if section in layout.order else place
-            else:
-                section = layout.order[place] if place < len(layout.order) else "BEHIND ALL"
-            named = []
+        if ends_section(way.section, line, fields):
+            name, named = way.next(line), []
+            if name is not None and notes is not None:
+                words = f"the section {name} is read as {way.section}, which no other heading names, by its place in the file"
+                notes.append(Finding(file, words, number))
             continue
-        sections.setdefault(section, []).append(SectionLine(number, fields, named))
+        sections.setdefault(way.section, []).append(SectionLine(number, fields, named))
     return sections
 
 

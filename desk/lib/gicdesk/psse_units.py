@@ -8,7 +8,7 @@ import decimal
 from collections.abc import Callable, Mapping, Sequence
 
 from .beyond import THREE_SIDED, with_third
-from .cases import Field, Row
+from .cases import FLOATING, Field, Row
 from .findings import Finding, shown
 from .psse_gic import SIDES, Side, Windings
 from .psse_half import Shares
@@ -132,6 +132,9 @@ def windings_of(
         if out == by_volts(kilovolts)[0] or letters[unit.buses[out]] == "A":
             notes.append(unit.record.finding(OPEN_AUTO))
             return []
+    if out is not None:
+        words = f"its status is {unit.status}: the winding at the bus {unit.buses[out]} is out of service"
+        notes.append(unit.record.finding(f"{words}, and is left out; the others stay"))
     windings = []
     for place in by_volts(kilovolts):
         bus = unit.buses[place]
@@ -211,9 +214,8 @@ class Unit:
         lower = [winding for winding in self.windings if winding.letters == "A"]
         if lower:
             return self.auto(lower[0])
-        self.tell_of_one_voltage()
         grounded = [winding for winding in self.windings if winding.letters == GROUNDED]
-        if len(grounded) > 1:
+        if len(grounded) > 1 and not all(winding.side.blocked for winding in grounded):
             grounded = self.unblocked(grounded)
         if not grounded:
             return [self.listed()]
@@ -245,13 +247,6 @@ class Unit:
             what = f"the winding at the bus {winding.bus} is its high side here, and its verdict means nothing"
             self.tell(f"{self.name} isn't grounded at its highest voltage: {what}")
 
-    def tell_of_one_voltage(self) -> None:
-        """Tells where two buses of the highest voltage are joined by a unit that is no autotransformer."""
-        high, next_one = self.windings[:2]
-        if high.kilovolts - next_one.kilovolts <= RATED_FROM_BUS * high.kilovolts:
-            words = f"{self.name} joins two buses of one voltage: if it is a phase shifter, its series winding is missing"
-            self.tell(f"{words} in the case")
-
     def delta_wye(self, winding: Winding) -> Row:
         self.tell_of_high(winding)
         fields = [Field("kind", "delta-wye"), *self.side("high", winding)]
@@ -275,7 +270,14 @@ class Unit:
         fields = [Field("kind", "wye-wye"), *self.side("high", high), *self.side("low", low)]
         fields += [self.resistance("high_resistance", high), self.resistance("low_resistance", low)]
         third = self.third("wye-wye", others)
-        return Row(self.name, with_third(fields, third) if third else fields, self.note)
+        return Row(self.name, [*(with_third(fields, third) if third else fields), *self.floating(high)], self.note)
+
+    def floating(self, winding: Winding) -> list[Field]:
+        """The one neutral of wyes of which none is grounded; where one is, the windings that are blocked aren't among them."""
+        if not winding.side.blocked:
+            return []
+        self.tell(f"all neutrals of {self.name} are blocked: its windings stay joined at one floating neutral, as in a case")
+        return [Field("neutral", "blocked", FLOATING)]
 
     def auto(self, low: Winding) -> list[Row]:
         high = self.windings[0]
@@ -285,8 +287,9 @@ class Unit:
             return []
         fields = [Field("kind", "auto"), *self.side("high", high), *self.side("low", low)]
         fields += [self.resistance("series_resistance", high), self.resistance("common_resistance", low)]
+        note = self.note
         if high.letters == "Y":
-            neutral = [Field("neutral", "blocked", "its neutral is not grounded")]
+            neutral, note = [Field("neutral", "blocked", "its neutral is not grounded")], note or "its neutral is not grounded"
         else:
             neutral = self.neutral([high, low])
         others = [winding for winding in self.windings[1:] if winding is not low and winding.letters == GROUNDED]
@@ -295,7 +298,7 @@ class Unit:
             words = f"the neutral of {self.name} has a device or no ground, and a case joins that of its third winding"
             ways = f"make a resistor 0, and WR{low.name} greater by three times it, or leave the winding out by --beyond=leave"
             self.data_at.wrong(None, f"{words} to it; {ways}")
-        return [Row(self.name, [*(with_third(fields, third) if third else fields), *neutral], self.note)]
+        return [Row(self.name, [*(with_third(fields, third) if third else fields), *neutral], note)]
 
     def third(self, kind: str, windings: Sequence[Winding]) -> list[Field]:
         """A third grounded winding, where there is one and it is written."""

@@ -2,23 +2,26 @@
 
 import dataclasses
 import datetime
+import functools
 from collections.abc import Iterable, Iterator, Mapping
-from typing import TypeVar
+from typing import Any, TypeVar
 
-from . import outages
+from . import grounds, mitigate, outages
 from .counts import plural
 from .directions import STEP, bearing_of, current_at, direction_counts, parts_of
+from .doubts import Doubt, doubts_of
 from .events import BaseSwitchings, Event, Items, one_event, read_events
 from .factors import Factor, read_factors, size, total
 from .findings import Finding, Refused, collected, refuse, visible
 from .forms import Interval
-from .gict import GicT, Maker, Subject
+from .gict import BEYOND, GicT, Maker, Subject
 from .inputs import Copies, Input
-from .network import Degrees, Network, Place, in_metres, laid_out, network_of, read_degrees
+from .network import Degrees, Network, Place, in_metres, laid_out, network_of, read_case, read_degrees
 from .outages import Asked, Outages, Result, Worst, worst_of
 from .program import Program, Run, commit_of, ending, is_recorded
 from .progress import Progress
 from .questions import question_text
+from .reactors import WAYS, Reactors, make_reactors, reactors_in
 from .reports import (
     Check,
     Elements,
@@ -26,6 +29,7 @@ from .reports import (
     Outage,
     Report,
     Review,
+    Robust,
     Screen,
     ScreenUnit,
     Series,
@@ -34,15 +38,21 @@ from .reports import (
     parse_report,
 )
 from .reports import Study as StormReport
+from .reviewed import Asked as AskedOf
+from .reviewed import asked_of, marks_of, review_questions
+from .sources import Sources, read_sources
 from .spans import Compared, compared
+from .study_marks import marks_lines
 from .storms import Seconds, StormStep, SwitchingRow, seconds_above, storm_steps, switching_rows
 from .storm_notes import factor_notes, field_notes, switching_notes, time_notes, zone_notes
+from .study_seen import seen_case
 from .together import together
 from .waveforms import Waveform, read_waveform
 
 Kind = TypeVar("Kind")
-OPTIONS = ("storm", "switch", "waveform", "factors", "events", "places", "width")
+OPTIONS = ("storm", "switch", "waveform", "factors", "events", "places", "sources", "width")
 FILES = ("case", *OPTIONS[:-1])
+HEAD = ("title", "project", "author", "revision", "data_date")  # what is said at the head of the page
 EVENT = "event_"  # the report of an event, with its number behind
 SHOWN = 40  # units and questions on the terminal
 MUST = ("reaches", "undecided")  # the verdicts of a unit that must be assessed
@@ -63,7 +73,11 @@ class Request:
     factors: str | None = None
     events: str | None = None
     places: str | None = None
+    sources: str | None = None
     width: str | None = None
+    tolerance: int | None = None  # in per cent, of grounds
+    has_devices: bool = False  # whether a blocking device is tried in each neutral
+    head: Mapping[str, str] = dataclasses.field(default_factory=dict)  # by the words of HEAD
 
     @property
     def case_word(self) -> str:
@@ -179,6 +193,28 @@ class UnitFacts:
     def is_assessed(self) -> bool:
         return self.assessed != BY_NOTHING
 
+    @property
+    def is_applicable(self) -> bool:
+        """Whether the standard applies to it: its high side has more than 200 kV and an earthed wye. The program judges these alone."""
+        return self.benchmark.verdict != "outside"
+
+
+@dataclasses.dataclass(frozen=True)
+class Within:
+    """What holds whatever the grounds are within a tolerance; or the line of the program where nothing is said of that."""
+
+    tolerance: int
+    found: grounds.Grounds | None
+    fault: str = ""
+
+
+@dataclasses.dataclass(frozen=True)
+class Devices:
+    """What a blocking device in each neutral in turn does; or why none can be tried."""
+
+    found: mitigate.Mitigation | None
+    fault: str = ""
+
 
 @dataclasses.dataclass(frozen=True)
 class Study:
@@ -204,20 +240,34 @@ class Study:
     flows: Flows | None = None
     waveform: Waveform | None = None
     gict: list[GicT] = dataclasses.field(default_factory=list)  # of the units that are assessed, where there is a waveform
+    gict_beyond: list[GicT] = dataclasses.field(default_factory=list)  # of those that reach the threshold of the supplemental event
     is_recorded: bool = False  # the program, in the record of a build
     compared: Compared | None = None  # the spans with the places, where there is a table of these
+    reactors: Reactors = Reactors()
+    doubts: list[Doubt] = dataclasses.field(default_factory=list)  # what the desk asks beside the review
+    sources: Sources | None = None
+    within: Within | None = None
+    devices: Devices | None = None
+
+    @functools.cached_property
+    def case(self) -> dict[str, Any] | None:
+        """The case, where Python reads it."""
+        return next((read_case(given.data) for given in self.inputs if given.role == "case"), None)
+
+    @functools.cached_property
+    def asked(self) -> list[AskedOf]:
+        """What the writer of the case is asked: by the spans that don't fit the places, by the review, and by the desk."""
+        reviewed = review_questions(self.review.questions, self.compared, self.case)
+        return reviewed + asked_of([(doubt.text, doubt.names) for doubt in self.doubts], self.case)
 
     @property
     def questions(self) -> list[str]:
-        """What the writer of the case is asked: by the spans that don't fit the places, and by the review."""
-        if self.compared is None:
-            return [question_text(question) for question in self.review.questions]
-        asked = [question for question in self.review.questions if question not in self.compared.explained]
-        reviewed = [
-            question_text(question) + (self.compared.loop_text(question.name) if question.kind == "closure" else "")
-            for question in asked
-        ]
-        return [misfit.text for misfit in self.compared.misfits] + reviewed
+        return [asked.text for asked in self.asked]
+
+    @functools.cached_property
+    def marks(self) -> dict[str, list[int]]:
+        """Of each unit the numbers of the questions that can change what is said of it."""
+        return marks_of(self.asked, self.case)
 
     @property
     def notes(self) -> list[str]:
@@ -240,6 +290,11 @@ class Study:
         """The units that reach the threshold or may, in the order of `units`."""
         return [unit for unit in self.units if unit.is_assessed]
 
+    @property
+    def applicable(self) -> list[UnitFacts]:
+        """The units that the standard applies to, in the order of `units`."""
+        return [unit for unit in self.units if unit.is_applicable]
+
     def brought(self, by: str) -> list[UnitFacts]:
         """Those that this brings to the threshold, in the order of `units`."""
         return [unit for unit in self.units if unit.assessed == by]
@@ -248,6 +303,11 @@ class Study:
     def beyond(self) -> list[UnitFacts]:
         """The others that reach the threshold of the supplemental event or may."""
         return [unit for unit in self.units if unit.supplemental.verdict in MUST and not unit.is_assessed]
+
+    @property
+    def all_gict(self) -> list[tuple[Screen, list[GicT]]]:
+        """Each event that has any, with its screen."""
+        return [(screen, found) for screen, found in ((self.screen, self.gict), (self.supplemental, self.gict_beyond)) if found]
 
     @property
     def switchings(self) -> list[SwitchingRow]:
@@ -327,6 +387,7 @@ class Tables:
     factors: dict[str, Factor]
     places: dict[str, Degrees]
     waveform: Waveform | None
+    sources: Sources | None
 
 
 def read_tables(request: Request, network: Network | None, items: Items) -> Tables:
@@ -336,7 +397,11 @@ def read_tables(request: Request, network: Network | None, items: Items) -> Tabl
     factors: dict[str, Factor] = {}
     places: dict[str, Degrees] = {}
     waveform: Waveform | None = None
+    sources: Sources | None = None
     unread = "it needs the case, which is in TOML 1.1; write the case without what only TOML 1.1 has"
+    with collected(findings):
+        if network is None and (request.tolerance is not None or request.has_devices):
+            raise refuse("--mitigate" if request.tolerance is None else f"--tolerance={request.tolerance}", unread)
     with collected(findings):
         if request.events is not None:
             events = read_events(request.events, items, request.data("events"))
@@ -353,9 +418,14 @@ def read_tables(request: Request, network: Network | None, items: Items) -> Tabl
     with collected(findings):
         if request.waveform is not None:
             waveform = read_waveform(request.waveform, request.data("waveform"))
+    with collected(findings):
+        if request.sources is not None and network is None:
+            raise refuse(request.sources, unread)
+        if request.sources is not None and network is not None:
+            sources = read_sources(request.sources, network.names, findings, request.data("sources"))
     if findings:
         raise Refused(findings)
-    return Tables(events, factors, places, waveform)
+    return Tables(events, factors, places, waveform, sources)
 
 
 def worst_outages(runner: outages.Runner, outage: Outage, progress: Progress) -> dict[str, Worst]:
@@ -438,6 +508,30 @@ def run_gict(runs: Runs, waveform: Waveform | None, screen: Screen, base: BaseSw
     return maker.make(subjects, runs.progress.next)
 
 
+def run_within(runs: Runs, screen: Screen) -> Within | None:
+    """What holds within the tolerance of grounds. That the program can't say it is told, and the study goes on."""
+    request, tolerance = runs.request, runs.request.tolerance
+    if tolerance is None:
+        return None
+    judge = grounds.Judge(request.asked, tolerance)
+    runs.progress.next("robust")
+    run = judge.run_robust(request.asked)
+    runs.keep("robust", "robust", (*request.screen_words, f"--tolerance={tolerance}"), run)
+    if run.network_fault is not None:
+        return Within(tolerance, None, run.line)
+    return Within(tolerance, grounds.found_grounds(judge, screen, runs.last_report(Robust), runs.progress))
+
+
+def run_devices(runs: Runs) -> Devices | None:
+    """What a blocking device in each neutral in turn does. That none can be tried is told, and the study goes on."""
+    if not runs.request.has_devices:
+        return None
+    try:
+        return Devices(mitigate.tried_devices(runs.request.asked, mitigate.Device(), 0, runs.progress))
+    except Refused as refused:
+        return Devices(None, "; ".join(finding.words for finding in refused.findings))
+
+
 def run_losses(runs: Runs, factors: dict[str, Factor], screen: Screen, words: tuple[str, ...]) -> Losses | None:
     if not factors:
         return None
@@ -456,6 +550,15 @@ def run_flows(runs: Runs, screen: Screen, words: tuple[str, ...]) -> Flows:
     counts = direction_counts(screen)
     bearing = STEP * counts.index(max(counts))
     return Flows(bearing, field_at(runs, "flows", screen, bearing, words))
+
+
+def run_reactors(runs: Runs, case: Input, screen: Screen, words: tuple[str, ...]) -> Reactors:
+    """The currents of the windings of reactors, where the case has any."""
+    names = reactors_in(read_case(case.data))
+    runs.progress.total += len(WAYS) if names else 0
+    return make_reactors(
+        names, screen.field, lambda name, north, east: runs.report(Field, name, "field", north, east, *words)
+    )
 
 
 def facts_of(
@@ -546,34 +649,70 @@ def look_for_one_case(reports: Iterable[Screen | Outage | StormReport | None]) -
         raise refuse("the reports of gicstudy", "they are of several cases; is --program another program?")
 
 
-def make_study(request: Request) -> Study:
+@dataclasses.dataclass(frozen=True)
+class Found:
+    """What comes of all runs."""
+
+    basis: Basis
+    tables: Tables
+    storm: Storm | None
+    outage: Outage
+    flows: Flows
+    reactors: Reactors
+    losses: Losses | None
+    within: Within | None
+    events: Outages | None
+    units: list[UnitFacts]
+    gict: list[GicT]
+    gict_beyond: list[GicT]
+    devices: Devices | None
+
+
+def run_all(runs: Runs, inputs: Mapping[str, Input]) -> Found:
     """Runs all that is asked, in the order in which faults of the files come early."""
+    request, progress = runs.request, runs.progress
+    basis = look_at_case(runs, inputs["case"])
+    network, screen, supplemental = basis.network, basis.screen, basis.supplemental
+    tables = read_tables(request, network, basis.items)
+    base, waveform = request.asked.base, tables.waveform
+    expected = expect_runs(runs, basis, tables)
+    storm = run_storm(runs, request, inputs, network.zones if network is not None else ["*"])
+    outage = runs.report(Outage, "outage", "outage", *request.screen_words)
+    look_for_one_case((screen, supplemental, outage, None if storm is None else storm.report))
+    flows = run_flows(runs, screen, request.screen_words)
+    reactors = run_reactors(runs, inputs["case"], screen, request.screen_words)
+    losses = run_losses(runs, tables.factors, screen, request.screen_words)
+    within = run_within(runs, screen)
+    events, worst = outages_and_worst(runs, basis, base, tables.events, outage)
+    units = facts_of(screen, supplemental, outage, worst, events, storm)
+    progress.total -= expected
+    run_series(runs, storm, [unit.name for unit in units if wants_series(unit) or unit.name in tables.factors])
+    units = facts_of(screen, supplemental, outage, worst, events, storm)
+    subjects = [subject_of(unit, events) for unit in units if unit.is_assessed]
+    gict = run_gict(runs, waveform, screen, base, subjects)
+    beyond = [Subject(unit.supplemental, None, BEYOND) for unit in units if unit.supplemental.verdict in MUST]
+    gict_beyond = run_gict(runs, waveform, supplemental, base, beyond)
+    devices = run_devices(runs)
+    return Found(basis, tables, storm, outage, flows, reactors, losses, within, events, units, gict, gict_beyond, devices)
+
+
+def make_study(request: Request) -> Study:
     began, commit = datetime.datetime.now().astimezone(), commit_of(request.program.checksum)
     inputs = request.copies.inputs
-    with Progress(8) as progress:
+    if request.tolerance is not None:
+        grounds.look_for_mode(request.program)
+    with Progress(8 + (request.tolerance is not None)) as progress:
         runs = Runs(request, progress)
-        basis = look_at_case(runs, inputs["case"])
-        network, screen, supplemental = basis.network, basis.screen, basis.supplemental
-        tables = read_tables(request, network, basis.items)
-        base = request.asked.base
-        expected = expect_runs(runs, basis, tables)
-        storm = run_storm(runs, request, inputs, network.zones if network is not None else ["*"])
-        outage = runs.report(Outage, "outage", "outage", *request.screen_words)
-        look_for_one_case((screen, supplemental, outage, None if storm is None else storm.report))
-        flows = run_flows(runs, screen, request.screen_words)
-        losses = run_losses(runs, tables.factors, screen, request.screen_words)
-        events, worst = outages_and_worst(runs, basis, base, tables.events, outage)
-        units = facts_of(screen, supplemental, outage, worst, events, storm)
-        progress.total -= expected
-        run_series(runs, storm, [unit.name for unit in units if wants_series(unit) or unit.name in tables.factors])
-        units = facts_of(screen, supplemental, outage, worst, events, storm)
-        subjects = [subject_of(unit, events) for unit in units if unit.is_assessed]
-        gict = run_gict(runs, tables.waveform, screen, base, subjects)
+        found = run_all(runs, inputs)
     request.program.look_for_change()
+    return study_of(runs, found, began, commit)
+
+
+def study_of(runs: Runs, found: Found, began: datetime.datetime, commit: str | None) -> Study:
+    request, basis, tables = runs.request, found.basis, found.tables
+    inputs, network = request.copies.inputs, basis.network
     places, parts = ({}, 0) if network is None else laid_out(network, in_metres(tables.places))
-    spans = None
-    if network is not None and tables.places:
-        spans = compared(network.links, tables.places, basis.review.questions)
+    spans = compared(network.links, tables.places, basis.review.questions) if network is not None and tables.places else None
     return Study(
         request=request,
         began=began,
@@ -584,21 +723,27 @@ def make_study(request: Request) -> Study:
         kept=runs.kept,
         review=basis.review,
         check=basis.check,
-        screen=screen,
-        supplemental=supplemental,
-        outage=outage,
-        units=units,
-        events=events,
+        screen=basis.screen,
+        supplemental=basis.supplemental,
+        outage=found.outage,
+        units=found.units,
+        events=found.events,
         network=network,
         places=places,
         placed=len(tables.places),
         parts=parts,
-        storm=storm,
-        losses=losses,
-        flows=flows,
+        storm=found.storm,
+        losses=found.losses,
+        flows=found.flows,
         waveform=tables.waveform,
-        gict=gict,
+        gict=found.gict,
+        gict_beyond=found.gict_beyond,
         compared=spans,
+        reactors=found.reactors,
+        doubts=[] if network is None else doubts_of(seen_case(inputs["case"], tables.places, tables.sources)),
+        sources=tables.sources,
+        within=found.within,
+        devices=found.devices,
     )
 
 
@@ -613,10 +758,12 @@ def shown_current(value: Interval) -> int:
 
 
 def count_text(study: Study) -> str:
-    """How many units must be assessed by the event, and how many more something out brings to the threshold."""
+    """How many of the units that the standard applies to must be assessed by the event, and how many more something out brings to
+    the threshold."""
     counts = {by: len(study.brought(by)) for by in (BY_EVENT, BY_OUTAGE, BY_LIST)}
     more = [f"{many} more {by}" for by, many in counts.items() if by != BY_EVENT and many]
-    by_event = f"{counts[BY_EVENT] or 'None'} of {plural(len(study.units), 'unit')} must be assessed by the benchmark event"
+    units = plural(len(study.applicable), "applicable unit")
+    by_event = f"{counts[BY_EVENT] or 'None'} of {units} must be assessed by the benchmark event"
     return ", and ".join([by_event, *([", ".join(more)] if more else [])])
 
 
@@ -638,4 +785,4 @@ def study_text(study: Study, page: str) -> str:
         more = [f"and {len(names) - SHOWN} more"] if len(names) > SHOWN else []
         if names:
             lines.append(f"{len(names)} {when}: {' '.join([*names[:SHOWN], *more])}")
-    return "\n".join([*lines, f"{visible(page)} is made"]) + "\n"
+    return "\n".join([*lines, *marks_lines(study.units, study.marks), f"{visible(page)} is made"]) + "\n"

@@ -4,9 +4,9 @@ run."""
 import hashlib
 import os
 import shlex
-from collections.abc import Iterable, Iterator, Mapping
+from collections.abc import Iterable, Iterator, Mapping, Sequence
 
-from . import earlier, gict, outages
+from . import earlier, gict, grounds, mitigate, outages
 from .compare import ends_or_nothing
 from .decimals import MILLI, shifted
 from .files import bytes_of
@@ -16,12 +16,16 @@ from .layouts import table_of
 from .outages import Worst
 from .study import EVENT, Study, UnitFacts
 from .study_gict import picture_file
+from .study_inputs import Rest, rests_in
+from .study_margin import margin
 from .study_page import page
 from .tables import Table
 from .workbook import workbook
 
 PAGE, COMMANDS, WORKBOOK = "study.html", "commands.txt", "tables.xlsx"
 UNITS, LOSSES = "units", "losses"  # tables
+MORE_HEADS = ["winding_low_A", "winding_high_A", "open_questions"]
+NONE_OF_REACTORS = ("bearing_degrees", "worst_outage", "worst_outage_perhaps_as_bad", "worst_event", "worst_event_perhaps_as_bad")
 
 
 def interval_heads(name: str) -> list[str]:
@@ -39,7 +43,34 @@ def page_of(folder: str) -> str:
     return os.path.join(folder, PAGE)
 
 
-def unit_cells(study: Study, unit: UnitFacts) -> list[str]:
+def more_cells(study: Study, name: str) -> list[str]:
+    """The greatest current of the winding of a reactor, and the numbers of the open questions that can change a unit."""
+    return [*ends_or_nothing(study.reactors.worst.get(name)), " ".join(map(str, study.marks.get(name, [])))]
+
+
+def without_currents(heads: Sequence[str], cells: list[str]) -> list[str]:
+    """The cells of a reactor, which has no current of a unit."""
+    return ["" if head.endswith("_A_per_phase") or head in NONE_OF_REACTORS else cell for head, cell in zip(heads, cells)]
+
+
+def rest_cells(rest: Rest | None) -> list[str]:
+    """What the verdict of a unit rests on."""
+    if rest is None:
+        return [""] * 4
+    return [rest.windings, rest.ground, *(f"{assumed} of {every}" for assumed, every in (rest.lines, rest.grounds))]
+
+
+def within_cells(study: Study, unit: UnitFacts) -> list[str]:
+    """What holds of a unit whatever the grounds are within the tolerance."""
+    found = None if study.within is None else study.within.found
+    if found is None:
+        return [""] * 4
+    holds = {row.name: row for row in found.robust.rows}[unit.name]
+    first = {one.name: one.first for one in found.units}.get(unit.name, "")
+    return [*ends_or_nothing(holds.worst), holds.verdict, first]
+
+
+def unit_cells(study: Study, unit: UnitFacts, rest: Rest | None) -> list[str]:
     network = study.network
     row = unit.benchmark
     peak: Interval | None = None if unit.peak is None else unit.peak.value
@@ -62,6 +93,10 @@ def unit_cells(study: Study, unit: UnitFacts) -> list[str]:
         "" if unit.peak is None else unit.peak.verdict,
         *(("", "") if unit.seconds is None else (str(unit.seconds.certain), str(unit.seconds.possible))),
         unit.assessed,
+        "yes" if unit.is_applicable else "no",
+        shifted(margin(study, row), MILLI) if unit.is_applicable else "",
+        *within_cells(study, unit),
+        *rest_cells(rest),
     ]
 
 
@@ -84,7 +119,12 @@ def units_table(study: Study) -> Table:
     for name in ("worst_outage", "worst_event"):
         heads += [name, *interval_heads(name), f"{name}_verdict", f"{name}_perhaps_as_bad"]
     heads += [*interval_heads("storm"), "storm_verdict", "certain_seconds", "possible_seconds", "must_be_assessed"]
-    return Table(heads, [unit_cells(study, unit) for unit in study.units])
+    heads += ["applicable", "margin_A_per_phase", *interval_heads("any_grounds"), "any_grounds_verdict", "moved_most_by"]
+    heads += ["source_of_windings", "source_of_ground", "assumed_lines", "assumed_grounds_beyond", *MORE_HEADS]
+    rests = rests_in(study)
+    rows = [[*unit_cells(study, unit, rests.get(unit.name)), *more_cells(study, unit.name)] for unit in study.units]
+    are_reactors = [unit.name in study.reactors for unit in study.units]
+    return Table(heads, [without_currents(heads, row) if is_one else row for row, is_one in zip(rows, are_reactors)])
 
 
 def losses_table(study: Study) -> Table:
@@ -107,8 +147,8 @@ def commands_text(study: Study) -> str:
     for kept in study.kept:
         told = f"  # {visible(kept.run.line)}" if kept.run.line else ""
         lines.append(f"{kept.run.status} {kept.name} {words_text(kept.words)}{told}")
-    for one in study.gict:
-        lines += [f"0 {kind}_{one.name} {words_text(curve.words)}" for kind, curve in one.curves.items()]
+    for _, found in study.all_gict:
+        lines += [f"0 {one.subject.report(kind)} {words_text(curve.words)}" for one in found for kind, curve in one.curves.items()]
     heads = "# status, report, words; files in reports/ and gict/ lie in this folder, and others are named as they were given"
     return "\n".join([heads, *lines]) + "\n"
 
@@ -131,8 +171,8 @@ def tables_of(study: Study) -> dict[str, Table]:
     tables = {UNITS: units_table(study)}
     if study.losses is not None:
         tables[LOSSES] = losses_table(study)
-    if study.gict:
-        tables[gict.SUMMARY] = gict.summary_table(study.gict, study.screen.threshold)
+    for screen, found in study.all_gict:
+        tables[f"{found[0].subject.folder}/{gict.SUMMARY}"] = gict.summary_table(found, screen.threshold)
     for kept in study.kept:
         if kept.report is not None:
             tables[f"tables/{kept.name}"] = table_of(kept.name, kept.mode, kept.report)
@@ -164,25 +204,27 @@ def files_of(study: Study, comma: bool, has_workbook: bool = False) -> dict[str,
         for number, result in enumerate(study.events.results, 1):
             files[f"reports/{EVENT}{number}.csv"] = base.with_event(result.event)
     files |= gict_files(study, comma)
+    if study.within is not None and study.within.found is not None:
+        files |= {f"grounds/{name}": text for name, text in grounds.files_of(study.within.found, comma).items()}
+    if study.devices is not None and study.devices.found is not None:
+        files |= {f"mitigate/{name}": text for name, text in mitigate.files_of(study.devices.found, comma).items()}
     sums = checksums_text(files)
     return files | {earlier.SUMS: sums, earlier.MARKER: earlier.marker_text(sums.encode())}
 
 
 def gict_files(study: Study, comma: bool) -> Iterator[tuple[str, str | bytes]]:
     """Of GIC(t) the field as it was given, and of each unit a table, a picture, the reports as they came, and what its runs had read."""
-    if not study.gict:
-        return
-    threshold = study.screen.threshold
-    yield gict.GIVEN_FIELD, study.gict[0].given.field.text
-    for one in study.gict:
-        subject = one.subject
-        yield subject.file("table", "csv"), gict.gict_table(one).csv(comma)
-        yield subject.file("picture", "svg"), picture_file(one, threshold)
-        yield subject.file("turned_field", "csv"), one.turned.field.text
-        if one.switchings is not None:
-            yield subject.file("switch", "csv"), one.switchings
-        for kind, curve in one.curves.items():
-            yield subject.file(kind, "txt"), curve.report
+    for screen, found in study.all_gict:
+        yield found[0].subject.given_field, found[0].given.field.text
+        for one in found:
+            subject = one.subject
+            yield subject.file("table", "csv"), gict.gict_table(one).csv(comma)
+            yield subject.file("picture", "svg"), picture_file(one, screen.threshold)
+            yield subject.file("turned_field", "csv"), one.turned.field.text
+            if one.switchings is not None:
+                yield subject.file("switch", "csv"), one.switchings
+            for kind, curve in one.curves.items():
+                yield subject.file(kind, "txt"), curve.report
 
 
 def checksums_text(files: Mapping[str, str | bytes]) -> str:

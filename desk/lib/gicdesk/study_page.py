@@ -1,7 +1,6 @@
 """The page of a study: one file of HTML, without a script and without a request to anywhere."""
 
 import hashlib
-import pathlib
 from collections.abc import Iterable, Sequence
 
 from .compare import outcome_text
@@ -13,7 +12,12 @@ from .outages import Worst
 from .reports import Screen, ScreenUnit
 from .study import BY_EVENT, BY_LIST, BY_OUTAGE, EVENT, MUST, Kept, Study, UnitFacts, count_text
 from .study_gict import gict_section
+from .study_head import signed_head, title_of
+from .study_inputs import inputs_section, rest_words, rests_in
 from .study_map import map_section
+from .study_margin import devices_section, margin_section, robust_words
+from .study_marks import marked, marks_note
+from .study_rounding import rounding_text
 from .study_storm import losses_section, storm_section
 from .study_style import STYLE
 from .study_units import directions_section, units_section
@@ -125,15 +129,15 @@ def questions_section(study: Study) -> Markup:
     compared = [] if study.compared is None else [made(study.compared.text)]
     if not questions:
         words = (
-            "The review finds nothing that is unusual. What it can't see, as a line that is missing in a loop, it doesn't "
-            "ask."
+            "Nothing unusual was found. What can't be seen, as a line that is missing in a loop, isn't "
+            "asked."
         )
         return section("questions", tag("p", words), *compared)
     words = f"The review has {plural(len(questions), 'finding')}. Each is a question, and no fault: write down the answer."
-    if study.compared is not None:
-        words = f"{plural(len(questions), 'question')}, and no fault any of them: write down the answer."
+    if study.compared is not None or study.doubts:
+        words = f"{plural(len(questions), 'question')}, and none is a fault: write down the answer."
     room = [tag("span", class_="write")] if len(questions) <= MOST_WITH_ROOM else []
-    items = [tag("li", question, *room) for question in questions]
+    items = [tag("li", question, *room, id=f"q{number}") for number, question in enumerate(questions, 1)]
     return section("questions", tag("p", words), tag("ol", *items), *compared)
 
 
@@ -167,18 +171,19 @@ def peak_words(unit: UnitFacts) -> str:
 
 def lead_text(study: Study) -> str:
     """The answer in a sentence or two."""
-    units, field, threshold = plural(len(study.units), "unit"), shifted(study.screen.field, MILLI), threshold_of(study)
-    outside = sum(unit.benchmark.verdict == "outside" for unit in study.units)
-    end = f"{outside} {'is' if outside == 1 else 'are'} outside of the assessment."
+    many, field, threshold = len(study.applicable), shifted(study.screen.field, MILLI), threshold_of(study)
+    outside = len(study.units) - many
+    end = f"The standard applies to {many} of {plural(len(study.units), 'unit')}, those above 200 kV with an earthed wye on the high side"
+    end += f"; {outside} {'is' if outside == 1 else 'are'} outside of the assessment." if outside else "."
     if study.assessed:
         return (
             f"{count_text(study)}: in some direction of a uniform field of {field} V/km they have {threshold} A a phase or more, "
             f"or may have it. {end}"
         )
-    if outside == len(study.units):
-        return f"None of {units} is judged. {end}"
+    if not many:
+        return f"None of {plural(len(study.units), 'unit')} is judged. {end}"
     return (
-        f"None of {units} must be assessed by the benchmark event: all that are judged stay under {threshold} A a phase "
+        f"None of {plural(many, 'applicable unit')} must be assessed by the benchmark event: all stay under {threshold} A a phase "
         f"in every direction of a uniform field of {field} V/km, also with each single item out whose network can be "
         f"solved. {end}"
     )
@@ -189,10 +194,10 @@ def answer_groups(study: Study) -> list[Markup]:
     return [
         group(
             "By the benchmark event, in the network as it stands",
-            [(unit.name, screen_words(unit.benchmark)) for unit in study.brought(BY_EVENT)],
+            [(marked(unit.name, study.marks), screen_words(unit.benchmark)) for unit in study.brought(BY_EVENT)],
         ),
-        group("More with one item out", [(unit.name, outage_words(unit)) for unit in study.brought(BY_OUTAGE)]),
-        group("More in an event of the list", [(unit.name, event_words(unit.worst_event)) for unit in study.brought(BY_LIST)]),
+        group("More with one item out", [(marked(unit.name, study.marks), outage_words(unit)) for unit in study.brought(BY_OUTAGE)]),
+        group("More in an event of the list", [(marked(unit.name, study.marks), event_words(unit.worst_event)) for unit in study.brought(BY_LIST)]),
     ]
 
 
@@ -208,10 +213,20 @@ def groups_beside(study: Study) -> list[Markup]:
     return [
         group(
             f"Of the others these reach {threshold} A in the supplemental event",
-            [(unit.name, screen_words(unit.supplemental)) for unit in study.beyond],
+            [(marked(unit.name, study.marks), screen_words(unit.supplemental)) for unit in study.beyond],
         ),
-        group(words, [(unit.name, peak_words(unit)) for unit in storm]),
+        group(words, [(marked(unit.name, study.marks), peak_words(unit)) for unit in storm]),
     ]
+
+
+def grounds_notes(study: Study) -> list[Markup]:
+    """How far the answer depends on numbers that may be off, as far as that was asked."""
+    notes = []
+    if study.within is not None and study.within.found is not None:
+        notes.append(tag("p", robust_words(study.within.found.robust), " See ", tag("a", TITLES["margin"], href="#margin"), "."))
+    if study.sources is not None and study.sources.of_rows:
+        notes.append(tag("p", rest_words(study, rests_in(study)), " See ", tag("a", TITLES["inputs"], href="#inputs"), "."))
+    return notes
 
 
 def answer_section(study: Study) -> Markup:
@@ -230,6 +245,8 @@ def answer_section(study: Study) -> Markup:
         notes.append(tag("p", "All of it is said of the case as it is written, of which ", asked, f" {stand} below."))
     if study.assessed != study.brought(BY_EVENT):
         notes.append(tag("p", OUTAGE_NOTE))
+    notes += grounds_notes(study)
+    notes += marks_note(study.units, study.marks)
     notes += [tag("p", note) for note in study.notes]
     note = (
         "Beside each name stands the high end of its worst current, in amperes a phase, as the program printed it. What "
@@ -321,7 +338,8 @@ def listed_runs(study: Study) -> list[Kept]:
 
 
 def made_section(study: Study) -> Markup:
-    series = len(study.kept) - len(listed_runs(study)) + sum(len(one.curves) for one in study.gict)
+    series = len(study.kept) - len(listed_runs(study))
+    series += sum(len(one.curves) for _, found in study.all_gict for one in found)
     rows = []
     for kept in listed_runs(study):
         words = words_of(map(visible, ("gicstudy", *kept.words)))
@@ -337,12 +355,13 @@ def made_section(study: Study) -> Markup:
         tag("p", more),
         *events_of_list(study),
         tag("p", proved_text(study)),
+        tag("p", rounding_text(study)),
     )
 
 
 def page(study: Study) -> str:
     """The page as one text."""
-    title = visible(f"Study of {pathlib.PurePath(study.request.case).name}")
+    title = title_of(study)
     head = tag(
         "head",
         tag("meta", charset="utf-8"),
@@ -358,17 +377,20 @@ def page(study: Study) -> str:
     sections = (
         answer_section(study),
         questions_section(study),
+        inputs_section(study),
         units_section(study),
+        margin_section(study),
         directions_section(study),
         map_section(study),
         storm_section(study),
         gict_section(study),
         losses_section(study),
+        devices_section(study),
         left_section(study),
         asked_section(study),
         made_section(study),
         sums_section(study),
     )
-    header = tag("header", tag("h1", title), tag("p", lead, class_="faint"), tag("nav", *links))
+    header = tag("header", tag("h1", title), tag("p", lead, class_="faint"), signed_head(study), tag("nav", *links))
     body = tag("body", header, "\n", *[Markup(part + "\n") for part in sections])
     return f"<!DOCTYPE html>\n{tag('html', head, Markup(chr(10)), body, lang='en')}\n"

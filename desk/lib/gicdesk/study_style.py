@@ -37,9 +37,16 @@ table.units { font-size: .8rem; }
 .keeps .e { min-width: 6.5em; }
 .keeps td:first-child, .keeps th:first-child { position: sticky; left: 0; z-index: 1; }
 .keeps tbody tr:nth-child(odd) td:first-child { background: #fff; }
+.keeps td:first-child { box-shadow: inset 0 -1px 0 var(--rule); }
+.one { white-space: nowrap; }
 .v { white-space: nowrap; }
 .reaches { color: var(--red); font-weight: 600; }
-.undecided { color: var(--amber); font-weight: 600; }
+.undecided, .varies { color: var(--amber); font-weight: 600; }
+.signed { margin: .6rem 0 .4rem; }
+.signed th { white-space: nowrap; border-bottom: 0; vertical-align: bottom; padding-left: 0; }
+.signed td { min-width: 18rem; border-bottom: 1px solid var(--faint); }
+.signed tr:nth-child(even) td { background: none; }
+.signed .blank { height: 1.9rem; border-bottom: 1px dotted var(--faint); }
 .below { color: var(--green); }
 .outside, .none { color: var(--faint); }
 .answer { border: 2px solid var(--ink); border-radius: 4px; padding: .2rem 1rem .4rem; background: var(--ground);
@@ -111,6 +118,8 @@ svg .beside { stroke: #e08a00; stroke-width: 1; }
   .answer { padding: .1rem .7rem .3rem; }
   .keeps .e { min-width: 9em; }
   .wrap { min-width: 17em; }
+  .signed { width: 100%; }
+  .signed td { min-width: 0; width: 60%; }
 }
 @page { size: A4; margin: 14mm 12mm; }
 @page wide { size: A4 landscape; margin: 11mm; }

@@ -1,14 +1,16 @@
 """The units of a study's page: their table, and their currents by the direction of the field."""
 
 from collections import Counter
+from collections.abc import Sequence
 
-from . import pictures
+from . import pictures, study_marks
 from .decimals import MILLI, shifted
 from .directions import STEP, direction_counts
 from .markup import Markup, table, tag
 from .outages import Worst
 from .reports import VERDICTS, Unit
 from .study import BY_EVENT, Study, UnitFacts
+from .study_marks import mark_cell
 from .study_words import ABSENT, amperes, made, peak_of, section, station_of, threshold_of, verdict
 
 MOST_ROSES = 48
@@ -19,7 +21,7 @@ UNIT_HEADS = {
     "unit": "name",
     "verdict": "",
     "worst, A": "n",
-    "bearing": "n",
+    "bearing, either way": "n",
     "north, A": "n",
     "east, A": "n",
 }
@@ -33,7 +35,7 @@ NOTE = (
     "The currents are effective ones in amperes a phase. Of each interval the end that is further from 0 is shown, as it "
     "was printed; both ends stand in units.csv. North and east are the currents in the event's field to the north and to "
     "the east, worst the greatest over all directions. The bearing of that, in whole degrees from the north over the "
-    "east, is made of the middles of these two; a field the other way gives as much. The worst outage is the single item "
+    "east, is made of the middles of these two; of the two ways the lesser is shown, and a field the other way gives as much. The worst outage is the single item "
     "without which the screen has the greatest high end for the unit; others, where the intervals don't tell which is "
     "worse, are named or counted behind it, and the current with it is the greatest of all outages as outage printed it. "
     "Stations and kV, those of the high side, are the case's."
@@ -44,6 +46,10 @@ STORM_NOTE = (
     "each step counted up to the next one, and the last one for nothing, so 0 may stand beside a current above it: by "
     "the series of a unit, and 0 where study says below. Where two numbers stand it is surely the first and at most the "
     "second."
+)
+REACTOR_NOTE = (
+    " A shunt reactor has no current of a unit. Its row shows – and the greatest current of its winding, of the three phases together "
+    "(a third of that is the current of a phase). The desk makes it of the currents in the event's field to the north and to the east."
 )
 ROSE_NOTE = (
     "All roses have one scale: the outer circle is {scale} A, and the dashed one {threshold} A. How far a curve is from "
@@ -83,6 +89,8 @@ def storm_cells(unit: UnitFacts) -> list[str]:
 
 def unit_cells(study: Study, unit: UnitFacts) -> list[str]:
     row = unit.benchmark
+    if unit.name in study.reactors:
+        return reactor_cells(study, unit)
     return [
         unit.name,
         verdict(row.verdict),
@@ -97,7 +105,18 @@ def unit_cells(study: Study, unit: UnitFacts) -> list[str]:
         *(storm_cells(unit) if study.has_storm_report else []),
         station_of(study, unit.name),
         kilovolts(study, unit.name),
+        mark_cell(unit.name, study.marks),
     ]
+
+
+def reactor_cells(study: Study, unit: UnitFacts) -> list[str]:
+    """Of a reactor the greatest current of its winding, in place of one of a unit, which it has none of."""
+    winding = study.reactors.worst[unit.name]
+    worst = ABSENT if winding is None else f"{ABSENT} (winding {amperes(winding)})"
+    many = len(OUTAGE_HEADS) + (len(EVENT_HEADS) if study.events is not None else 0)
+    many += len(STORM_HEADS) if study.has_storm_report else 0
+    cells = [unit.name, verdict(unit.benchmark.verdict), worst, *[ABSENT] * 3, *[ABSENT] * len(SUPPLEMENTAL_HEADS), *[ABSENT] * many]
+    return [*cells, station_of(study, unit.name), kilovolts(study, unit.name), mark_cell(unit.name, study.marks)]
 
 
 def units_section(study: Study) -> Markup:
@@ -109,17 +128,22 @@ def units_section(study: Study) -> Markup:
     if study.has_storm_report:
         heads += STORM_HEADS.items()
         note += STORM_NOTE.format(threshold=threshold_of(study))
-    heads += PLACE_HEADS.items()
+    heads += [*PLACE_HEADS.items(), *study_marks.HEAD.items()]
+    note += REACTOR_NOTE if study.reactors.worst else ""
+    note += study_marks.NOTE if study.marks else ""
     counts = Counter(unit.benchmark.verdict for unit in study.units)
     words = ", ".join(f"{counts[word]} {word}" for word in VERDICTS)
-    rows = [unit_cells(study, unit) for unit in study.units]
-    return section(
-        "units",
-        tag("p", f"In the benchmark event: {words}. The greatest worst current stands first."),
-        table([head for head, _ in heads], rows, [class_ for _, class_ in heads], class_="units keeps"),
-        made(note),
-        class_="wide",
-    )
+
+    def listed(units: Sequence[UnitFacts]) -> Markup:
+        rows = [unit_cells(study, unit) for unit in units]
+        return table([head for head, _ in heads], rows, [class_ for _, class_ in heads], class_="units keeps")
+
+    others = [unit for unit in study.units if not unit.is_applicable]
+    pieces = [tag("h3", f"Units that the standard applies to: {len(study.applicable)}"), listed(study.applicable)]
+    if others:
+        pieces += [tag("h3", f"Other units, outside of the assessment: {len(others)}"), listed(others)]
+    lead = tag("p", f"In the benchmark event: {words}. The greatest worst current stands first.")
+    return section("units", lead, *pieces, made(note), class_="wide")
 
 
 def counts_text(study: Study, counts: list[int]) -> str:

@@ -4,7 +4,7 @@ from collections.abc import Iterable, Sequence
 
 from .decimals import MILLI, shifted
 from .forms import Interval
-from .markup import Markup, tag
+from .markup import Markup, joined, tag
 from .storms import SwitchingRow
 from .study import Study, UnitFacts, shown_current
 
@@ -14,12 +14,15 @@ ABSENT = "–"
 TITLES = {
     "answer": "The answer",
     "questions": "Open questions",
+    "inputs": "The inputs",
     "units": "The units",
+    "margin": "The margin",
     "directions": "By direction",
     "map": "The map",
     "storm": "The storm",
     "gict": "GIC(t)",
     "losses": "Losses",
+    "devices": "Devices in neutrals",
     "left": "What was left out",
     "asked": "What was asked",
     "made": "How the numbers were made",
@@ -56,6 +59,13 @@ def names_text(names: Sequence[str]) -> str:
     """Names in a sentence, as far as there are not too many."""
     more = f" and {len(names) - MOST_LISTED} more" if len(names) > MOST_LISTED else ""
     return ", ".join(names[:MOST_LISTED]) + more
+
+
+def names_whole(names: Sequence[str]) -> Markup:
+    """The same, with no name over two lines where it has room in one."""
+    more = f" and {len(names) - MOST_LISTED} more" if len(names) > MOST_LISTED else ""
+    pieces = [tag("span", name, class_="w") for name in names[:MOST_LISTED]]
+    return joined((Markup(", ".join(pieces)), more))
 
 
 def switchings_text(rows: Sequence[SwitchingRow]) -> str:

@@ -31,8 +31,12 @@ WINDINGS = (  # ohm per phase
     Usual(0, "0.001", "2"),
 )
 GROUNDS = (Usual(300, "0.02", "5"), Usual(100, "0.02", "10"), Usual(0, "0.05", "30"))  # ohm
-NEUTRALS = (Usual(0, "0.01", "50"),)  # ohm
+NEUTRALS = (Usual(0, "0.001", "50"),)  # ohm
 REACTORS = (Usual(300, "0.1", "20"), Usual(100, "0.05", "20"), Usual(0, "0.01", "20"))  # ohm per phase
+# The middle of what grounds at a station of a voltage have, in ohm: this project's own, of published networks and of guides.
+MIDDLE_GROUNDS = ((300, 0.2), (200, 0.3), (100, 0.5), (0, 1.0))
+LEAST_NEUTRAL, MOST_NEUTRAL = 0.005, 1.0  # ohm: a neutral resistor beyond these is asked about
+LEAST_BETA = 0.5  # a beta below it is that of few earth models
 BASE_MVA = 100
 TRANSMISSION_KV = 200  # above it a voltage is one of transmission, and so is the other of an autotransformer
 
@@ -41,6 +45,11 @@ def usual_at(rows: Sequence[Usual], kilovolts: Number) -> tuple[Number, Number]:
     """The least and the most that is usual at this voltage."""
     row = next(row for row in rows if kilovolts > row.kilovolts or row is rows[-1])
     return Number(row.least), Number(row.most)
+
+
+def usual_ground(kilovolts: float) -> float:
+    """The ohm that the middle one of grounds at stations of such a highest voltage has."""
+    return next(ohm for least, ohm in MIDDLE_GROUNDS if kilovolts > least or least == 0)
 
 
 def short(number: Number) -> str:

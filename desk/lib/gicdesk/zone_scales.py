@@ -32,6 +32,8 @@ class Zone:
     row: Row
     scale: Scale
     at: Record
+    alpha: Fraction  # as it is meant
+    alpha_made: str  # how
 
 
 def read_alpha(word: str) -> Fraction | None:
@@ -78,7 +80,7 @@ def zone_by(at: Record, latitude: Number, alpha: Fraction, origin: str, beta: Nu
         where += f", in place of {latitude:f} degrees"
     met = f"alpha {float(by_table(scale.latitude)):g} of the table, and spans times {float(scale.factor):.6f}"
     meant = f"with {met}: alpha {float(alpha):.6f} {origin}, times beta {bare(at.text('beta'))}"
-    return zone(at, scale, where, meant)
+    return zone(at, scale, where, meant, alpha, origin)
 
 
 def zone_by_table(at: Record, latitude: Number, beta: Number, ask: Ask) -> Zone:
@@ -94,10 +96,11 @@ def zone_by_table(at: Record, latitude: Number, beta: Number, ask: Ask) -> Zone:
         ways = f"{TOO_SMALL}; choose --alpha={FORMULA}, or write a column alpha"
         ask(f"alpha:{at.text('name')}", at, "geomagnetic_latitude", words, ways)
     meant = "hundredths: the scaling for the conductivity of the earth"
-    return zone(at, Scale(hundredths, whole(beta, BETA)), "hundredths of a degree, geomagnetic", meant)
+    where = "hundredths of a degree, geomagnetic"
+    return zone(at, Scale(hundredths, whole(beta, BETA)), where, meant, table, "by the program's table")
 
 
-def zone(at: Record, scale: Scale, latitude: str, beta: str) -> Zone:
+def zone(at: Record, scale: Scale, latitude: str, beta: str, alpha: Fraction, alpha_made: str) -> Zone:
     """The row of the case, with what is said of its latitude and its beta."""
     fields = [Field("latitude", scale.latitude, latitude), Field("beta", scale.beta, beta)]
-    return Zone(Row(at.text("name"), fields, at.text("note")), scale, at)
+    return Zone(Row(at.text("name"), fields, at.text("note")), scale, at, alpha, alpha_made)

@@ -5,6 +5,7 @@ import decimal
 from collections.abc import Mapping
 from fractions import Fraction
 
+from .alpha import NO_SCALE, Scale
 from .borders import Borders
 from .earths import read_models
 from .findings import Finding, shown
@@ -49,6 +50,10 @@ class Zones:
     of_substations: dict[int, Record]  # each with its zone
     borders: Borders | None
     of_lines: dict[tuple[frozenset[int], str], Override]
+
+    def scale(self, name: str) -> Scale:
+        """What the case has for alpha times beta of a zone."""
+        return next((zone.scale for zone in self.zones if zone.row.name == name), NO_SCALE)
 
     def factor(self, name: str) -> Fraction:
         """The factor of the spans in a zone."""
