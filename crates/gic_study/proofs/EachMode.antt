@@ -28,7 +28,7 @@ abbrev mode_begun : List ℕ → Option Mode
 mode_begun text = option_map (λ r. r.mode) (find (λ r. first_three r.word == first_three text) mode_rows)
 
 -- a right text begins with the word of its mode, one row a mode over the network of a case
-begins_in : (m : NetworkMode) (a : NetworkAsked) (text : List ℕ) → (network_meaning m).IsRight inputs text → mode_begun text ≡ Some (modes.Network m)
+begins_in : (m : NetworkMode) (a : NetworkAsked) (text : List ℕ) → (network_meaning m).IsRight a text → mode_begun text ≡ Some (modes.Network m)
 unfolding first_three
 begins_in network.Volts a text right = ap mode_begun right
 begins_in network.List a text right = ap mode_begun right

@@ -59,12 +59,19 @@ pub by_report : (plans : Plans) (asked : Asked) (before now : Shown) (answer : R
 by_report plans asked before now answer whole served ends = subst (Concludes plans asked before now) (sym ends) (concludes_reported plans asked before now answer served)
 
 -- how a call ends whose workspace may not have been made
-pub by_told : {E : Type 0} (plans : Plans) (asked : Asked) (before now : Shown) (answer : Result (Result (Unit {0}) ReportFault) E) (whole : Answer)
+by_told : {E : Type 0} (plans : Plans) (asked : Asked) (before now : Shown) (answer : Result (Result (Unit {0}) ReportFault) E) (whole : Answer)
     → ServesMade (meaning_of asked).need (meaning_of asked).case (meaning_of asked).steps ((meaning_of asked).IsRight plans) before now answer → whole ≡ told answer
     → Concludes plans asked before now whole
 by_told plans asked before now (Ok answer) whole served ends = by_report plans asked before now answer whole served ends
 by_told plans asked before now (Err e) whole served ends =
     subst (Concludes plans asked before now) (sym ends) (tt, subst (λ (s : Shown). Keeps before.bytes s.bytes) (sym served) (keeps-refl before.bytes))
+
+-- what is asked for ended so
+pub of_told : {E : Type 0} (plans : Plans) (asked is_asked : Asked) (before now : Shown) (answer : Result (Result (Unit {0}) ReportFault) E) (whole : Answer) → asked ≡ is_asked
+    → ((all : Plans) → ServesMade (meaning_of is_asked).need (meaning_of is_asked).case (meaning_of is_asked).steps ((meaning_of is_asked).IsRight all) before now answer)
+    → whole ≡ told answer → Concludes plans asked before now whole
+of_told plans asked is_asked before now answer whole is served ends =
+    of_asked plans asked is_asked before now whole is (by_told plans is_asked before now answer whole (served plans) ends)
 
 -- the report of a mode over the network of a case, by what it is asked of the network
 pub of_mode : {Q E : Type 0} (mode is_mode : NetworkMode) (a : NetworkAsked) (question : Q) (need : Need) (IsRight : Inputs Q → List ℕ → Type 0) (before now : Shown)

@@ -4,6 +4,7 @@ use Rattle.gic_monitor.specs.DwellText.{dwell_text}
 use Rattle.gic_monitor.specs.EarthText.{earth_text}
 use Rattle.gic_monitor.specs.LossText.{volt_text}
 use Rattle.gic_monitor.specs.declared.loss.volt_loss.VoltLoss.{VoltLoss}
+use Rattle.gic_study.specs.ProgramPlans.{program_plans}
 use Rattle.gic_study.proofs.Attached.{Plan, attached}
 use Rattle.gic_study.proofs.program.serve_with_monitors.Goals as goal
 use Rattle.gic_study.proofs.program.serve_with_monitors.OwnLists as own
@@ -21,6 +22,12 @@ losses g c =
     let scaled : ◌≡◌ {A = Plan} (own.entry-1-3.1.plan c.new-5.result) (volt_text 1) = λ k roster views. c.new-5.ensures.plan roster views k in
     read_made own.own-1 own.entry-1-3 own.at-1-3 own.same-1-3 Plan (λ j y. j.1.plan y) _ _ _ c.into_dyn_box-3.ensures.1
     ∙ ap (λ (m : VoltLoss). own.entry-1-3.1.plan m) made ∙ scaled
+
+pub returns-in_default : goal.returns-in_default
+returns-in_default g c = c.without_memory.ensures program_plans c.args.asked
+
+pub returns-in_default-2 : goal.returns-in_default-2
+returns-in_default-2 g c = c.without_memory-in_default-2.ensures program_plans c.args.asked
 
 pub returns : goal.returns
 returns g c =
