@@ -290,7 +290,7 @@ def row_of(line: str, name: str) -> str | None:
         return None
     variants = [word for words in MODES.values() for word in words]
     for token in re.findall(r"[\w.']+", line.partition("=")[0])[1:]:
-        word = token.rpartition(".")[2]
+        word = str(token).rpartition(".")[2]
         if word in variants:
             return word
     return None
