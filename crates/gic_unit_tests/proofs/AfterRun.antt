@@ -1,5 +1,5 @@
 -- What an output and an error stream in memory hold after a run, by how the program ended.
-use Rattle.std.proofs.Common.{◌≡◌, ◌≢◌, ◌∙◌, ℕ, List, [], ◌++◌, Option, Some, Ok, Err, inl, inr, ap, sym, subst, arith}
+use Rattle.std.proofs.Common.{◌≡◌, ◌≢◌, ◌∙◌, ℕ, List, [], ◌++◌, Option, Some, Ok, Err, ap, sym, subst, arith}
 use Rattle.std.specs.Io.KnownBytes.{Appends}
 use Rattle.gic_files.specs.Files.{Files}
 use Rattle.gic_ask.specs.Held.{AnswersOfFiles}
@@ -10,8 +10,6 @@ use Rattle.gic_study.specs.Laws.{StatusesSay}
 use Rattle.gic_study.specs.Modes.{IsRightText}
 use Rattle.gic_study.specs.ProgramEnds.{ProgramEnds}
 use Rattle.gic_study.specs.ProgramPlans.{program_plans}
-use Rattle.gic_study.specs.declared.fault.Fault.TheVariants.{Memory}
-use Rattle.gic_study.specs.declared.fault.Wanting.TheVariants.{Workspace}
 use Rattle.gic_unit_tests.specs.Told.{IsReport, IsLineOfStatus}
 use Rattle.gic_unit_tests.proofs.FilesAsk.{files_ask}
 
@@ -36,12 +34,8 @@ served law words files before now text start end s = record {
 
 pub report : AnswersOfFiles → StatusesSay → (words : List (List ℕ)) (files : Files) (before now : Moment) (status : ℕ) (text : List ℕ)
     → before.out.bytes ≡ Some [] → now.out.bytes ≡ Some text → ProgramEnds words (Some files) before now status → status ≡ 0 → IsReport words files text
-report law say words files before now status text start end (inl ends) done =
+report law say words files before now status text start end ends done =
     served law words files before now text start end ((say (call words files before now) status ends).done done)
-report law say words files before now status text start end (inr at_once) done = absurd (omega (arith, done, at_once.status_is))
-
-some_is : (a b : List ℕ) → Some a ≡ Some b → a ≡ b
-some_is a b e = cc
 
 module _ (before now : Moment) (status : ℕ) (text : List ℕ) (start : before.err.bytes ≡ Some []) (end : now.err.bytes ≡ Some text) (some : status ≢ 0) where
   of_answer : (answer : Answer) → status ≡ status_of answer → Tells before.err now.err answer → IsLineOfStatus status text
@@ -55,12 +49,4 @@ module _ (before now : Moment) (status : ℕ) (text : List ℕ) (start : before.
 
   -- the line of a fault, or a prefix of it
   pub told : (words : List (List ℕ)) (files : Files) → ProgramEnds words (Some files) before now status → IsLineOfStatus status text
-  told words files (inl ends) = of_answer ends.answer ends.status_is ends.line
-  told words files (inr at_once) =
-      let empty : text ≡ [] = some_is text [] (sym end ∙ ap (λ (m : Moment). m.err.bytes) at_once.kept ∙ start) in
-      record {
-        fault = Memory Workspace;
-        status_is = at_once.status_is;
-        rest = line_of_fault (Memory Workspace);
-        line_is = ap (λ (bytes : List ℕ). bytes ++ line_of_fault (Memory Workspace)) (sym empty);
-      }
+  told words files ends = of_answer ends.answer ends.status_is ends.line
