@@ -155,7 +155,7 @@ class ReviewWords(test_outages.OutagesTest):
         self.prints("review", "review\npart 3 A\npart 3 B\npart 6 C\nfindings 3\nend\n")
         shown = self.done("review", case, f"--program={FAKE}").splitlines()
         self.assertEqual(len(shown), 3)
-        self.assertIn("2 parts of the network have no line, and in them 2 units of voltages below 60 kV, TA and TB", shown[1])
+        self.assertIn("2 parts of the network have no line, and 2 units in them, TA and TB, have voltages below 60 kV: is a line or a bus", shown[1])
         places = self.file("places.csv", "name,latitude,longitude\nX,50,10\n")
         (line,) = self.refused("review", case, f"--program={FAKE}", f"--places={places}")
         self.assertIn("it has none of the case's substations; is it the table of another case?", line)
