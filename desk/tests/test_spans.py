@@ -31,8 +31,8 @@ def tables() -> dict[str, str]:
         "lines": "name,from,to,zone,ohm,north_km,east_km,capacitor\n",
         "transformers": "name,kind,high,low,high_kv,low_kv,high_ohm,low_ohm,series_ohm,common_ohm,neutral\n",
     }
-    for name, (latitude, longitude) in PLACES.items():
-        texts["substations"] += f"{name},{latitude:.1f},{longitude:.1f},0.3\n"
+    for place, (name, (latitude, longitude)) in enumerate(PLACES.items()):
+        texts["substations"] += f"{name},{latitude:.1f},{longitude:.1f},{0.1 + 0.01 * (place % 9):.2f}\n"
         texts["buses"] += f"b{name},{name},345\n"
         texts["transformers"] += f"T{name},delta-wye,b{name},,345,,0.3,,,,\n"
     for start, end in lines:
