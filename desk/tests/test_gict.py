@@ -252,9 +252,12 @@ class OverTheProgram(DeskTest):
             rows = list(csv.DictReader(file))
         self.assertEqual((len(rows), rows[0]["transformer"], sum(not row["out"] for row in rows)), (21, "GR-G1", 15))
         for row in rows:
-            # Turned, the strongest step brings the worst current, but for the rounding of its field to whole mV/km.
-            worst, peak = float(row["worst_high_A_per_phase"]), float(row["turned_high_A_per_phase"])
+            # Turned, the strongest step brings the worst current, but for the rounding of its field to whole mV/km. Of the two ways
+            # it points to the lesser bearing, so the current has either sign.
+            worst = float(row["worst_high_A_per_phase"])
+            peak = max(abs(float(row[f"turned_{end}_A_per_phase"])) for end in ("low", "high"))
             self.assertAlmostEqual(peak, worst, delta=worst / 8000 + 0.002)
+            self.assertLess(int(row["bearing_degrees"]), 180)
             self.assertEqual(row["turned_time_s"], "60")
             given = max(abs(float(row[f"given_{end}_A_per_phase"])) for end in ("low", "high"))
             self.assertLessEqual(given, worst + worst / 8000 + 0.002)

@@ -92,7 +92,7 @@ class Low(unittest.TestCase):
         graph = Graph(self.case(34500))
         low, others = low_parts(graph, self.QUESTIONS)
         self.assertEqual(([one.name for one in low], [one.name for one in others]), (["SD0", "SD1", "SD2"], ["b0"]))
-        words = "3 parts of the network have no line, and in them 3 units of voltages below 60 kV, D0, D1 and 1 more: are their low"
+        words = "3 parts of the network have no line, and 3 units in them, D0, D1 and 1 more, have voltages below 60 kV: is a line"
         self.assertIn(words, low_text(graph, low))
         asked = review_questions(self.QUESTIONS, None, self.case(34500))
         self.assertEqual([len(one.units) for one in asked], [0, 3])

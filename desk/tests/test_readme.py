@@ -54,7 +54,7 @@ class Readme(DeskTest):
         shown = set(re.findall(r"desk/gicdesk ([\w-]+)", "".join(commands for commands, _ in blocks)))
         shown_in_text = {
             *("csv", "compare", "outages", "mitigate", "grounds", "case", "psse", "study", "losses"),
-            *("powermodels", "from-powermodels"),
+            *("powermodels", "from-powermodels", "local"),
         }
         self.assertEqual(shown, shown_in_text)
         for commands, text in blocks:

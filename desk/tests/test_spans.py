@@ -31,8 +31,8 @@ def tables() -> dict[str, str]:
         "lines": "name,from,to,zone,ohm,north_km,east_km,capacitor\n",
         "transformers": "name,kind,high,low,high_kv,low_kv,high_ohm,low_ohm,series_ohm,common_ohm,neutral\n",
     }
-    for name, (latitude, longitude) in PLACES.items():
-        texts["substations"] += f"{name},{latitude:.1f},{longitude:.1f},0.3\n"
+    for place, (name, (latitude, longitude)) in enumerate(PLACES.items()):
+        texts["substations"] += f"{name},{latitude:.1f},{longitude:.1f},{0.1 + 0.01 * (place % 9):.2f}\n"
         texts["buses"] += f"b{name},{name},345\n"
         texts["transformers"] += f"T{name},delta-wye,b{name},,345,,0.3,,,,\n"
     for start, end in lines:
@@ -155,7 +155,7 @@ class ReviewWords(test_outages.OutagesTest):
         self.prints("review", "review\npart 3 A\npart 3 B\npart 6 C\nfindings 3\nend\n")
         shown = self.done("review", case, f"--program={FAKE}").splitlines()
         self.assertEqual(len(shown), 3)
-        self.assertIn("2 parts of the network have no line, and in them 2 units of voltages below 60 kV, TA and TB", shown[1])
+        self.assertIn("2 parts of the network have no line, and 2 units in them, TA and TB, have voltages below 60 kV: is a line or a bus", shown[1])
         places = self.file("places.csv", "name,latitude,longitude\nX,50,10\n")
         (line,) = self.refused("review", case, f"--program={FAKE}", f"--places={places}")
         self.assertIn("it has none of the case's substations; is it the table of another case?", line)

@@ -161,8 +161,8 @@ def low_text(graph: Graph, low: Sequence[Question]) -> str:
     """One question for all parts of low voltages."""
     units = [unit for question in low for unit in graph.units_in[graph.groups.of(question.name)]]
     more = f" and {len(units) - 2} more" if len(units) > 2 else ""
-    named = " and ".join(units[:2]) if not more else ", ".join(units[:2])
+    named = ", ".join(units[:2]) if more else " and ".join(units[:2])
     return (
-        f"{len(low)} parts of the network have no line, and in them {len(units)} units of voltages below {LOW_VOLTS // 1000} kV, "
-        f"{named}{more}: are their low sides meant to be alone? No current of the network flows there."
+        f"{len(low)} parts of the network have no line, and {len(units)} units in them, {named}{more}, have voltages below "
+        f"{LOW_VOLTS // 1000} kV: is a line or a bus tie missing?"
     )
