@@ -199,15 +199,19 @@ class First(unittest.TestCase):
         self.assertEqual(self.at.call("screen", TMPDIR=str(self.work))[0], 0)
         whole = time.monotonic() - begun
         shutil.rmtree(self.shelf)
-        # (a call that is at its end isn't interrupted any more)
         for moment in [chance.uniform(0, whole / 2) for _ in range(40)]:
             started = self.at.start("screen", TMPDIR=str(self.work))
             time.sleep(moment)
+            sent = time.monotonic()
             os.killpg(started.pid, signal.SIGINT)
             said = started.communicate(timeout=WAIT)[1]
             self.assertNotIn("Traceback", said, moment)
-            # (130 where Python is interrupted in its own start)
-            self.assertIn(started.returncode, (-signal.SIGINT, 128 + signal.SIGINT), moment)
+            if started.returncode == 0:
+                # The call was at its end, sooner than the first one was: a call that loses an interrupt goes on for longer.
+                self.assertLess(time.monotonic() - sent, whole / 4, moment)
+            else:
+                # (130 where Python is interrupted in its own start)
+                self.assertIn(started.returncode, (-signal.SIGINT, 128 + signal.SIGINT), moment)
             self.is_tidy()
             self.assertEqual(list(self.work.iterdir()), [], moment)
 
